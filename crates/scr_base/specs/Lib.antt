@@ -1,0 +1,10 @@
+pub mod Words
+pub mod Limits
+pub mod Same
+pub mod Bytes
+pub mod Sets
+pub mod Calls
+pub mod Halt
+pub mod Index
+pub mod Fill
+pub mod Causes
