@@ -8,3 +8,4 @@ pub mod Halt
 pub mod Index
 pub mod Fill
 pub mod Causes
+pub mod Streams
