@@ -1,0 +1,6 @@
+mod Fronts
+mod Same
+mod Visible
+mod Tails
+mod Numbers
+mod Lengths

@@ -1,0 +1,7 @@
+pub mod Words
+pub mod Inputs
+pub mod Outputs
+pub mod Forms
+pub mod Programs
+pub mod Fields
+pub mod Statuses
