@@ -6,6 +6,8 @@ mod input;
 mod output;
 mod replay;
 mod script;
+#[cfg(test)]
+mod tests;
 mod words;
 
 fn main() {}

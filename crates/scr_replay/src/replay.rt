@@ -52,7 +52,7 @@ fn end_with<K: Sink>(sink: &mut K, line: &[u8], status: u8) -> u8
 }
 
 /// The script, or the status with which the call ends, where what belongs to it is printed.
-fn script_or_status<S: Source, K: Sink>(
+pub fn script_or_status<S: Source, K: Sink>(
     alloc: Global,
     words: &Vec<String>,
     source: &mut S,
