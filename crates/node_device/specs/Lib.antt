@@ -1,0 +1,15 @@
+pub mod File
+pub mod DeviceState
+pub mod Answers
+pub mod Calls
+pub mod Rack
+pub mod Lending
+pub mod Outcomes
+pub mod Written
+pub mod Cells
+pub mod CellFiles
+pub mod Entry
+pub mod Entries
+pub mod EntryLists
+pub mod MemState
+pub mod MemSound
