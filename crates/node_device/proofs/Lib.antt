@@ -1,2 +1,4 @@
-pub mod CellLists
 pub mod Racks
+pub mod ChangeLists
+pub mod HeldChanges
+pub mod Places

@@ -1,25 +1,25 @@
 -- Lists of entries.
-use Rattle.std.proofs.Common.{◌≡◌, ◌≢◌, ◌⊎◌, inl, inr, ◌<◌, ◌≤◌, ◌+◌, ◌-◌, ◌^◌, ℕ, zero, suc, Bool, true, false, cond, List, [], ◌∷◌, ◌++◌, map, length, take, drop, set, get_or, sum_by, Option, None, Some, refl, sym, ◌∙◌, ap, subst, arith, zero-add}
-use Rattle.std.specs.Prelude.{Result, Ok, Err, IfErr, OnErr, IsSome, IsSomeAnd, is_some, Contains, unwrap_or, ◌↔◌}
+use Rattle.std.proofs.Common.{◌≡◌, ◌≢◌, ◌⊎◌, inl, inr, ◌<◌, ◌≤◌, ◌+◌, ◌^◌, ◌*◌, ℕ, zero, suc, Bool, true, false, cond, ◌||◌, not, List, [], ◌∷◌, ◌++◌, map, length, take, drop, set, get_or, sum_by, Option, None, Some, refl, sym, ◌∙◌, ap, subst, arith, zero-add, length-append, length-drop}
+use Rattle.std.specs.Prelude.{vec_len, if◌then◌else◌, Result, Ok, Err, IfErr, OnErr, IsSome, is_some, Contains, unwrap_or, ◌↔◌}
 use Rattle.std.specs.Cmp.Lexicographic.{slice_cmp}
 use Rattle.std.specs.Ordering.{nat_cmp}
 use Rattle.std.specs.Str.{bytes_eq}
 use Rattle.std.specs.declared.cmp.Ordering.TheVariants.{Less}
-use Rattle.std.proofs.lemmas.List.{get_or-map, map-set, length-map, set-get_or, get_or_default, length-set, get_or-set_same, get_or-set_other}
+use Rattle.std.proofs.lemmas.List.{get_or-map, map-set, length-map, set-get_or, get_or_default, length-set, get_or-set_same, get_or-set_other, length-take-le}
 use Rattle.std.proofs.lemmas.List.Sums.{sum_by-cons, sum_by-set, sum_by-insert}
 use Rattle.std.proofs.lemmas.Bool.{cases_eq}
 use Rattle.std.proofs.lemmas.Slice.Eq.{bytes_eq-Decides}
 use Rattle.std.proofs.lemmas.Cmp.{nat_list_cmp_total}
 use Rattle.std.proofs.lemmas.Map.Text.{is_eq-slice_cmp}
-use Rattle.node_device.specs.File.{File, IsKept, IsAtRest, MayLeave, IsPartlySynced, bytes_of}
-use Rattle.node_device.specs.Answers.{growth, IsGateWrite}
-use Rattle.node_device.specs.Cells.{present_len, nothing}
+use Rattle.node_device.specs.File.{File, IsKept, IsAtRest, MayLeave, IsPartlySynced, Torn, no_file, bytes_of}
+use Rattle.node_device.specs.Held.{present}
 use Rattle.node_device.specs.Entry.{entry_file, entry_name}
-use Rattle.node_device.specs.Entries.{file_at, names_of, name_at, room_of, IsSettled}
+use Rattle.std.specs.Option.{option_map}
+use Rattle.node_device.specs.Entries.{file_at, names_of, name_at, used_by, turn_behind, IsStopOf}
 use Rattle.node_device.specs.DeviceState.{IsAscending}
 use Rattle.node_device.specs.declared.entry.Entry.{Entry}
 use Rattle.node_device.specs.Outcomes.{true_or_false, not_both, rest_leaves}
-use Rattle.node_device.specs.CellFiles.{now_allowed}
+use Rattle.node_device.specs.declared.outcome.Outcome.TheVariants.{AsRead}
 
 below_or_not : (k n : ℕ) → (k < n) ⊎ (n ≤ k)
 below_or_not k n = grind arith
@@ -55,8 +55,8 @@ file_at_found (e ∷ es) (suc i) d asc lt =
     let below = asc zero (suc i) (omega arith) (omega (arith, length-map es entry_name)) in
     ap (λ b. cond b (entry_file e) (file_at es (name_at es i))) (bytes_eq_other (entry_name e) (name_at es i) (below_other _ _ below)) ∙ file_at_found es i d (tail_ascending (entry_name e) (map entry_name es) asc) (omega arith)
 
--- under a name that no entry has there is nothing
-pub file_at_absent : (es : List Entry) (q : List ℕ) → ((j : ℕ) → j < length es → name_at es j ≢ q) → file_at es q ≡ nothing
+-- under a name that no entry has there is no_file
+pub file_at_absent : (es : List Entry) (q : List ℕ) → ((j : ℕ) → j < length es → name_at es j ≢ q) → file_at es q ≡ no_file
 file_at_absent [] q none = refl
 file_at_absent (e ∷ es) q none =
     ap (λ b. cond b (entry_file e) (file_at es q)) (bytes_eq_other (entry_name e) q (none zero (omega arith))) ∙ file_at_absent es q (λ j lt. none (suc j) (omega arith))
@@ -77,8 +77,8 @@ file_at-set_other (x ∷ es) (suc i) e q is ne = ap (cond (bytes_eq (entry_name 
 
 -- one more entry
 pub file_at-insert_other : (es : List Entry) (i : ℕ) (e : Entry) (q : List ℕ) → q ≢ entry_name e → file_at (take i es ++ e ∷ drop i es) q ≡ file_at es q
-file_at-insert_other [] zero e q ne = ap (λ b. cond b (entry_file e) nothing) (bytes_eq_other (entry_name e) q (λ same. ne (sym same)))
-file_at-insert_other [] (suc i) e q ne = ap (λ b. cond b (entry_file e) nothing) (bytes_eq_other (entry_name e) q (λ same. ne (sym same)))
+file_at-insert_other [] zero e q ne = ap (λ b. cond b (entry_file e) no_file) (bytes_eq_other (entry_name e) q (λ same. ne (sym same)))
+file_at-insert_other [] (suc i) e q ne = ap (λ b. cond b (entry_file e) no_file) (bytes_eq_other (entry_name e) q (λ same. ne (sym same)))
 file_at-insert_other (x ∷ es) zero e q ne = ap (λ b. cond b (entry_file e) (file_at (x ∷ es) q)) (bytes_eq_other (entry_name e) q (λ same. ne (sym same)))
 file_at-insert_other (x ∷ es) (suc i) e q ne = ap (cond (bytes_eq (entry_name x) q) (entry_file x)) (file_at-insert_other es i e q ne)
 
@@ -93,7 +93,7 @@ both R true h k = h
 both R false h k = k
 
 -- the entries one by one changed, each under its name
-pub file_at_each : (R : File → File → Type 0) → R nothing nothing → (es fs : List Entry) → length es ≡ length fs → ((k : ℕ) (d : Entry) → k < length es → (entry_name (get_or fs k d) ≡ entry_name (get_or es k d)) × R (entry_file (get_or es k d)) (entry_file (get_or fs k d))) → (q : List ℕ) → R (file_at es q) (file_at fs q)
+pub file_at_each : (R : File → File → Type 0) → R no_file no_file → (es fs : List Entry) → length es ≡ length fs → ((k : ℕ) (d : Entry) → k < length es → (entry_name (get_or fs k d) ≡ entry_name (get_or es k d)) × R (entry_file (get_or es k d)) (entry_file (get_or fs k d))) → (q : List ℕ) → R (file_at es q) (file_at fs q)
 file_at_each R none [] [] len each q = none
 file_at_each R none [] (f ∷ fs) len each q = absurd (omega arith)
 file_at_each R none (e ∷ es) [] len each q = absurd (omega arith)
@@ -165,7 +165,7 @@ to_len : (es : List Entry) → IsAscending (map entry_name es) → (q : List ℕ
 to_len [] asc q (k, lt, at) = absurd (omega arith)
 to_len (e ∷ es) asc q has = elim (step_in e.there (entry_name e) (names_of es) q has) [
   | inl here ↦
-      subst (λ (b : Bool). IsSome (cond b (entry_file e) (file_at es q)).len) (sym (bytes_eq_same (entry_name e) q here.1)) (ap (λ (b : Bool). is_some (present_len b e.len)) here.0)
+      subst (λ (b : Bool). IsSome (cond b (entry_file e) (file_at es q)).len) (sym (bytes_eq_same (entry_name e) q here.1)) (ap (λ (b : Bool). is_some (option_map length (present b e.bytes.items))) here.0)
   | inr later ↦
       let found = listed_entry es q later in
       subst (λ (b : Bool). IsSome (cond b (entry_file e) (file_at es q)).len) (sym (bytes_eq_other (entry_name e) q (λ same. others_above e es asc found.0 found.1 (same ∙ sym found.2))))
@@ -176,9 +176,9 @@ later_in : (b : Bool) (n : List ℕ) (ns : List (List ℕ)) (q : List ℕ) → C
 later_in true n ns q (k, lt, at) = (suc k, omega arith, at)
 later_in false n ns q has = has
 
-there_of : (b : Bool) (n : ℕ) → IsSome (present_len b n) → b ≡ true
-there_of true n some = refl
-there_of false n some = absurd (cc some)
+there_of : (b : Bool) (xs : List ℕ) → IsSome (option_map length (present b xs)) → b ≡ true
+there_of true xs some = refl
+there_of false xs some = absurd (cc some)
 
 first_in : (b : Bool) (n : List ℕ) (ns : List (List ℕ)) (q : List ℕ) → b ≡ true → n ≡ q → Contains (cond b (n ∷ ns) ns) q
 first_in true n ns q there same = (zero, omega arith, same)
@@ -187,7 +187,7 @@ first_in false n ns q there same = absurd (cc there)
 from_len : (es : List Entry) (q : List ℕ) → IsSome (file_at es q).len → Contains (names_of es) q
 from_len [] q some = absurd (cc some)
 from_len (e ∷ es) q some = elim (same_name_or_not (entry_name e) q) [
-  | inl same ↦ first_in e.there (entry_name e) (names_of es) q (there_of e.there e.len (subst (λ (b : Bool). IsSome (cond b (entry_file e) (file_at es q)).len) same.0 some)) same.1
+  | inl same ↦ first_in e.there (entry_name e) (names_of es) q (there_of e.there e.bytes.items (subst (λ (b : Bool). IsSome (cond b (entry_file e) (file_at es q)).len) same.0 some)) same.1
   | inr other ↦ later_in e.there (entry_name e) (names_of es) q (from_len es q (subst (λ (b : Bool). IsSome (cond b (entry_file e) (file_at es q)).len) other.0 some))
 ]
 
@@ -202,37 +202,37 @@ sum_by-same f g (n ∷ ns) same = let first = same zero (omega arith) in let res
 len_of : List Entry → List ℕ → ℕ
 len_of es n = unwrap_or (file_at es n).len 0
 
-first_sum : (b : Bool) (n : List ℕ) (ns : List (List ℕ)) (len : ℕ) (f : List ℕ → ℕ) → f n ≡ unwrap_or (present_len b len) 0 → (b ≡ false → len ≡ 0) → sum_by f (cond b (n ∷ ns) ns) ≡ len + sum_by f ns
-first_sum true n ns len f at absent = sum_by-cons f n ns ∙ ap (λ m. m + sum_by f ns) at
-first_sum false n ns len f at absent = omega (arith, absent refl, zero-add (sum_by f ns))
+first_sum : (b : Bool) (n : List ℕ) (ns : List (List ℕ)) (xs : List ℕ) (f : List ℕ → ℕ) → f n ≡ unwrap_or (option_map length (present b xs)) 0 → (b ≡ false → xs ≡ []) → sum_by f (cond b (n ∷ ns) ns) ≡ length xs + sum_by f ns
+first_sum true n ns xs f at absent = sum_by-cons f n ns ∙ ap (λ m. m + sum_by f ns) at
+first_sum false n ns xs f at absent = omega (arith, ap length (absent refl), zero-add (sum_by f ns))
 
 -- the sum of the lengths, name by name
-pub used_is : (es : List Entry) → IsAscending (map entry_name es) → sum_by (λ n. unwrap_or (file_at es n).len 0) (names_of es) ≡ sum_by (λ e. e.len) es
+pub used_is : (es : List Entry) → IsAscending (map entry_name es) → sum_by (λ n. unwrap_or (file_at es n).len 0) (names_of es) ≡ used_by es
 used_is [] asc = refl
 used_is (e ∷ es) asc =
-    let first = first_sum e.there (entry_name e) (names_of es) e.len (λ n. unwrap_or (file_at (e ∷ es) n).len 0)
+    let first = first_sum e.there (entry_name e) (names_of es) e.bytes.items (λ n. unwrap_or (file_at (e ∷ es) n).len 0)
     (ap (λ b. unwrap_or (cond b (entry_file e) (file_at es (entry_name e))).len 0) (bytes_eq_same (entry_name e) (entry_name e) refl)) e.sound.absent in
     let same = sum_by-same (λ n. unwrap_or (file_at (e ∷ es) n).len 0) (λ n. unwrap_or (file_at es n).len 0) (names_of es) (λ k lt.
     let found = listed_entry es (get_or (names_of es) k []) (k, lt, get_or_default (names_of es) k (get_or (names_of es) k []) [] lt) in
     ap (λ b. unwrap_or (cond b (entry_file e) (file_at es (get_or (names_of es) k []))).len 0) (bytes_eq_other (entry_name e) (get_or (names_of es) k []) (λ eq. others_above e es asc found.0 found.1 (eq ∙ sym found.2)))) in
-    first ∙ ap (λ n. e.len + n) (same ∙ used_is es (tail_ascending (entry_name e) (map entry_name es) asc)) ∙ sym (sum_by-cons (λ (x : Entry). x.len) e es)
+    first ∙ ap (λ n. length e.bytes.items + n) (same ∙ used_is es (tail_ascending (entry_name e) (map entry_name es) asc)) ∙ ap (λ (n : ℕ). n + used_by es) (sym e.bytes.ok.0) ∙ sym (sum_by-cons (λ (x : Entry). vec_len x.bytes) e es)
 
 -- the first i are changed, each as R says
-pub record IsEachTo (R : Entry → Entry → Type 0) (i : ℕ) (old new : List Entry) : Type 0 where
+pub record IsEachTo (R : ℕ → Entry → Entry → Type 0) (i : ℕ) (old new : List Entry) : Type 0 where
   pub len : length new ≡ length old
-  pub passed : (k : ℕ) (d : Entry) → k < i → R (get_or old k d) (get_or new k d)
+  pub passed : (k : ℕ) (d : Entry) → k < i → R k (get_or old k d) (get_or new k d)
   pub ahead : (k : ℕ) (d : Entry) → i ≤ k → get_or new k d ≡ get_or old k d
 
-pub each_more : (R : Entry → Entry → Type 0) (i : ℕ) (old new : List Entry) (was e : Entry) → i < length new → IsEachTo R i old new → was ≡ get_or new i was → R was e → IsEachTo R (i + 1) old (set new i e)
+pub each_more : (R : ℕ → Entry → Entry → Type 0) (i : ℕ) (old new : List Entry) (was e : Entry) → i < length new → IsEachTo R i old new → was ≡ get_or new i was → R i was e → IsEachTo R (i + 1) old (set new i e)
 each_more R i old new was e lt each is r = record {
   len = length-set new i e ∙ each.len;
   passed = λ k d below. elim (cases_eq k i) [
-    | inl same ↦ subst (λ (j : ℕ). R (get_or old j d) (get_or (set new i e) j d)) (sym same)
-        (subst (λ (x : Entry). R x (get_or (set new i e) i d)) (is ∙ get_or_default new i was d lt ∙ each.ahead i d (omega arith))
-        (subst (λ (x : Entry). R was x) (sym (get_or-set_same new i e d lt)) r))
+    | inl same ↦ subst (λ (j : ℕ). R j (get_or old j d) (get_or (set new i e) j d)) (sym same)
+        (subst (λ (x : Entry). R i x (get_or (set new i e) i d)) (is ∙ get_or_default new i was d lt ∙ each.ahead i d (omega arith))
+        (subst (λ (x : Entry). R i was x) (sym (get_or-set_same new i e d lt)) r))
     | inr ne ↦
         let other : k ≢ i = ne in
-        subst (λ (x : Entry). R (get_or old k d) x) (sym (get_or-set_other new i k e d other)) (each.passed k d (grind arith))
+        subst (λ (x : Entry). R k (get_or old k d) x) (sym (get_or-set_other new i k e d other)) (each.passed k d (grind arith))
   ];
   ahead = λ k d above. get_or-set_other new i k e d (let other : k ≢ i = omega arith in other) ∙ each.ahead k d (omega arith);
 }
@@ -253,32 +253,16 @@ module _ (es : List Entry) (asc : IsAscending (map entry_name es)) (i : ℕ) (lt
   pub replaced_others : (q : List ℕ) → q ≢ name_at es i → file_at (set es i new) q ≡ file_at es q
   replaced_others q ne = file_at-set_other es i new q named ne
 
-  pub replaced_room : room_of (set es i new) + length old.cells.items ≡ room_of es + length new.cells.items
-  replaced_room = ap (λ (e : Entry). room_of (set es i new) + length e.cells.items) old_is ∙ sum_by-set (λ (e : Entry). length e.cells.items) es i new old lt
+  pub replaced_used : used_by (set es i new) + vec_len old.bytes ≡ used_by es + vec_len new.bytes
+  replaced_used = ap (λ (e : Entry). used_by (set es i new) + vec_len e.bytes) old_is ∙ sum_by-set (λ (e : Entry). vec_len e.bytes) es i new old lt
 
--- no file is longer than its room
-lens_below : (es : List Entry) → sum_by (λ e. e.len) es ≤ room_of es
+-- the files are all short
+lens_below : (es : List Entry) → used_by es ≤ length es * 1073741824
 lens_below [] = omega arith
-lens_below (e ∷ es) = omega (arith, sum_by-cons (λ (x : Entry). x.len) e es, sum_by-cons (λ (x : Entry). length x.cells.items) e es, e.sound.in_now, lens_below es)
+lens_below (e ∷ es) = omega (arith, sum_by-cons (λ (x : Entry). vec_len x.bytes) e es, e.bytes.ok.0, e.sound.now_in, e.sound.small, lens_below es)
 
-pub lens_fit : (es : List Entry) → room_of es < 2 ^ 64 → sum_by (λ e. e.len) es < 2 ^ 64
-lens_fit es fits = omega (arith, lens_below es)
-
-len_or : (b : Bool) (n : ℕ) → (b ≡ false → n ≡ 0) → unwrap_or (present_len b n) 0 ≡ n
-len_or true n absent = refl
-len_or false n absent = sym (absent refl)
-
--- what a write adds to the file of an entry
-pub growth_is : (e : Entry) (at n : ℕ) → growth (entry_file e) at n ≡ (at + n) - e.len
-growth_is e at n = omega (arith, len_or e.there e.len e.sound.absent)
-
-is_there_len : (b : Bool) (n at : ℕ) → IsSomeAnd (present_len b n) (λ len. at < len) → at < n
-is_there_len true n at h = h
-is_there_len false n at h = absurd h
-
--- a write of a gate adds nothing
-pub gate_inside : (e : Entry) (at n : ℕ) → IsGateWrite (entry_file e) at n → at + n ≤ e.len
-gate_inside e at n gate = omega (arith, gate.0, is_there_len e.there e.len at gate.2)
+pub lens_fit : (es : List Entry) → length es ≤ 2 ^ 33 → used_by es < 2 ^ 64
+lens_fit es few = omega (arith, lens_below es)
 
 names_of-set : (es : List Entry) (i : ℕ) (e : Entry) → entry_name e ≡ name_at es i → ((d : Entry) → e.there ≡ (get_or es i d).there) → names_of (set es i e) ≡ names_of es
 names_of-set [] i e name there = refl
@@ -313,26 +297,20 @@ module _ (es : List Entry) (i : ℕ) (le : i ≤ length es) (n : List ℕ) (e : 
   found_new = ap (λ (l : List Entry). file_at l n) is
       ∙ subst (λ (m : List ℕ). file_at (take i es ++ e ∷ drop i es) m ≡ entry_file e) name (file_at-insert_same es i e le (λ j lt. below_other _ _ (ap (λ (m : List ℕ). slice_cmp nat_cmp (name_at es j) m) name ∙ before j lt)))
 
-  pub inserted_at : (R : File → File → Type 0) (first : File) → file_at es n ≡ nothing → first ≡ nothing → R first (entry_file e) → R (file_at es n) (file_at all n)
-  inserted_at R first none was r =
-      subst (λ (f : File). R f (file_at all n)) (was ∙ sym none) (subst (λ (f : File). R first f) (sym found_new) r)
+  pub inserted_at : (R : File → File → Type 0) → file_at es n ≡ no_file → R no_file (entry_file e) → R (file_at es n) (file_at all n)
+  inserted_at R none r = subst (λ (f : File). R f (file_at all n)) (sym none) (subst (λ (f : File). R no_file f) (sym found_new) r)
 
   pub inserted_others : (q : List ℕ) → q ≢ n → file_at all q ≡ file_at es q
   inserted_others q ne = ap (λ (l : List Entry). file_at l q) is ∙ file_at-insert_other es i e q (λ same. ne (same ∙ name))
 
-  pub inserted_room : room_of all ≡ room_of es + length e.cells.items
-  inserted_room = ap (λ (l : List Entry). room_of l) is ∙ sum_by-insert (λ (x : Entry). length x.cells.items) es i e
+  pub inserted_used : used_by all ≡ used_by es + vec_len e.bytes
+  inserted_used = ap (λ (l : List Entry). used_by l) is ∙ sum_by-insert (λ (x : Entry). vec_len x.bytes) es i e
 
--- the entries after an insert that may have been refused
-pub inserted_or_not : (es : List Entry) (i : ℕ) (le : i ≤ length es) (n : List ℕ) (e : Entry) (name : entry_name e ≡ n) (before : (j : ℕ) → j < i → slice_cmp nat_cmp (name_at es j) n ≡ Less) (b : Bool) (all : List Entry) → all ≡ cond b (take i es ++ e ∷ drop i es) es
-    → IsAscending (map entry_name es) → (i < length es → slice_cmp nat_cmp n (name_at es i) ≡ Less) → IsAscending (map entry_name all) × (room_of all ≤ room_of es + length e.cells.items)
-inserted_or_not es i le n e name before true all is asc after =
-    (inserted_ascending es i le n e name before all is asc after, omega (arith, inserted_room es i le n e name before all is))
-inserted_or_not es i le n e name before false all is asc after =
-    (subst (λ (l : List Entry). IsAscending (map entry_name l)) (sym is) asc, omega (arith, ap (λ (l : List Entry). room_of l) is))
+  pub inserted_length : length all ≡ length es + 1
+  inserted_length = ap length is ∙ omega (arith, length-append (take i es) (e ∷ drop i es), length-take-le i es le, length-drop i es)
 
 -- between the names below and those above, no entry has the name
-pub file_at_between : (es : List Entry) (i : ℕ) (q : List ℕ) → IsAscending (map entry_name es) → ((j : ℕ) → j < i → slice_cmp nat_cmp (name_at es j) q ≡ Less) → (i < length es → slice_cmp nat_cmp q (name_at es i) ≡ Less) → file_at es q ≡ nothing
+pub file_at_between : (es : List Entry) (i : ℕ) (q : List ℕ) → IsAscending (map entry_name es) → ((j : ℕ) → j < i → slice_cmp nat_cmp (name_at es j) q ≡ Less) → (i < length es → slice_cmp nat_cmp q (name_at es i) ≡ Less) → file_at es q ≡ no_file
 file_at_between es i q asc before after = file_at_absent es q (λ j lt. elim (below_or_not j i) [
   | inl below ↦ below_other _ _ (before j below)
   | inr above ↦
@@ -351,7 +329,7 @@ pub file_at_is : (es : List Entry) (i : ℕ) (q : List ℕ) (e : Entry) → IsAs
 file_at_is es i q e asc lt name is = subst (λ (n : List ℕ). file_at es n ≡ entry_file e) name (file_at_found es i e asc lt ∙ ap entry_file (sym is))
 
 pub absent_at : (es : List Entry) (q : List ℕ) (r : Result ℕ ℕ) → IsAscending (map entry_name es) → (fs : List Entry) → fs ≡ es
-    → IfErr r (λ i. (i ≤ length fs) × ((j : ℕ) → j < i → slice_cmp nat_cmp (name_at fs j) q ≡ Less) × (i < length fs → slice_cmp nat_cmp q (name_at fs i) ≡ Less)) → OnErr r (file_at es q ≡ nothing)
+    → IfErr r (λ i. (i ≤ length fs) × ((j : ℕ) → j < i → slice_cmp nat_cmp (name_at fs j) q ≡ Less) × (i < length fs → slice_cmp nat_cmp q (name_at fs i) ≡ Less)) → OnErr r (file_at es q ≡ no_file)
 absent_at es q (Ok i) asc fs is h = tt
 absent_at es q (Err i) asc fs is h =
     let at : (i ≤ length es) × ((j : ℕ) → j < i → slice_cmp nat_cmp (name_at es j) q ≡ Less) × (i < length es → slice_cmp nat_cmp q (name_at es i) ≡ Less) =
@@ -369,14 +347,6 @@ each_name (e ∷ es) (f ∷ fs) len same =
 pub each_ascending : (es fs : List Entry) → length fs ≡ length es → ((k : ℕ) (d : Entry) → k < length es → entry_name (get_or fs k d) ≡ entry_name (get_or es k d)) → IsAscending (map entry_name es) → IsAscending (map entry_name fs)
 each_ascending es fs len same asc = subst (λ (ns : List (List ℕ)). IsAscending ns) (sym (each_name es fs len same)) asc
 
-pub each_room : (es fs : List Entry) → length fs ≡ length es → ((k : ℕ) (d : Entry) → k < length es → length (get_or fs k d).cells.items ≤ length (get_or es k d).cells.items) → room_of fs ≤ room_of es
-each_room [] [] len less = omega arith
-each_room [] (f ∷ fs) len less = absurd (omega arith)
-each_room (e ∷ es) [] len less = absurd (omega arith)
-each_room (e ∷ es) (f ∷ fs) len less =
-    let first = less zero e (omega arith) in
-    omega (arith, first, sum_by-cons (λ (x : Entry). length x.cells.items) e es, sum_by-cons (λ (x : Entry). length x.cells.items) f fs, each_room es fs (omega arith) (λ k d lt. less (suc k) d (omega arith)))
-
 pub each_names_of : (es fs : List Entry) → length fs ≡ length es → ((k : ℕ) (d : Entry) → k < length es → (entry_name (get_or fs k d) ≡ entry_name (get_or es k d)) × ((get_or fs k d).there ≡ (get_or es k d).there)) → names_of fs ≡ names_of es
 each_names_of [] [] len same = refl
 each_names_of [] (f ∷ fs) len same = absurd (omega arith)
@@ -388,26 +358,49 @@ each_names_of (e ∷ es) (f ∷ fs) len same =
     ∙ ap (λ (n : List ℕ). cond e.there (n ∷ names_of fs) (names_of fs)) first.0
     ∙ ap (λ (ns : List (List ℕ)). cond e.there (entry_name e ∷ ns) ns) rest
 
-pub rest_nothing : IsAtRest nothing
+pub rest_nothing : IsAtRest no_file
 rest_nothing = record { stable = refl; untouched = λ k. refl; not_fluid = refl; greatest = refl }
 
--- what a stop leaves is no longer than it was
-pub stop_room : (f g : File) (o : Option (List ℕ)) → g.now ≡ o → IsAtRest g → MayLeave f o → g.greatest ≤ f.greatest
-stop_room f g None is rest may = omega (arith, rest.greatest, ap (λ p. length (bytes_of p)) is)
-stop_room f g (Some b) is rest held = omega (arith, rest.greatest, ap (λ p. length (bytes_of p)) is, held.no_longer)
-
-pub partly_nothing : IsPartlySynced nothing nothing
+pub partly_nothing : IsPartlySynced no_file no_file
 partly_nothing = record { outcomes = λ o may. may; touched = λ k t. t }
 
 -- a sync of one entry leaves an outcome from before
-pub partly_synced : (e f : Entry) → IsSettled e f → IsPartlySynced (entry_file e) (entry_file f)
+pub partly_synced : (e f : Entry) → IsStopOf AsRead e f → IsPartlySynced (entry_file e) (entry_file f)
 partly_synced e f s = record {
-  outcomes = λ o may. subst (λ (p : Option (List ℕ)). MayLeave (entry_file e) p) (sym (rest_leaves (entry_file f) o s.at_rest may ∙ s.now)) (now_allowed e.there e.was_there e.fluid e.len e.stable_len e.cells.items e.sound);
+  outcomes = λ o may. subst (λ (p : Option (List ℕ)). MayLeave (entry_file e) p) (sym (rest_leaves (entry_file f) o s.at_rest may)) s.allowed;
   touched = λ k t. not_both ((entry_file f).touched k) t (s.at_rest.untouched k);
 }
 
-pub settled_kept : (e f : Entry) → IsSettled e f → IsKept (entry_file e) (entry_file f)
-settled_kept e f s = record { len = s.len; now = s.now; fluid = λ h. not_both (entry_file f).fluid h s.at_rest.not_fluid; greatest = s.room }
+-- what is left at rest is no longer than it was
+left_short : (f : File) (o : Option (List ℕ)) (n : ℕ) → MayLeave f o → n ≡ length (bytes_of o) → n ≤ f.greatest
+left_short f None n may is = omega arith
+left_short f (Some b) n held is = omega (arith, held.no_longer)
+
+pub settled_kept : (e f : Entry) → IsStopOf AsRead e f → IsKept (entry_file e) (entry_file f)
+settled_kept e f s = record {
+  len = ap (option_map length) s.now;
+  now = s.now;
+  fluid = λ h. not_both (entry_file f).fluid h s.at_rest.not_fluid;
+  greatest = left_short (entry_file e) (entry_file f).now (entry_file f).greatest s.allowed s.at_rest.greatest;
+}
+
+-- the first write under a name
+pub torn_first : (at n : ℕ) (f g : File) → IsAtRest f → f.now ≡ None → Torn at n f g → Torn at n no_file g
+torn_first at n f g rest none torn = record {
+  stable = torn.stable ∙ rest.stable ∙ none;
+  touched = λ k touched. elim (torn.touched k touched) [
+    | inl before ↦ not_both (f.touched k) before (rest.untouched k)
+    | inr inside ↦ inr inside
+  ];
+  fluid = λ h. inr refl;
+  greatest = omega (arith, torn.greatest, rest.greatest, ap (λ o. length (bytes_of o)) none);
+  there = λ some. absurd (cc some);
+}
+
+-- the turn behind one entry more
+pub turn_behind-snoc : (odd : Bool) (es : List Entry) (e : Entry) → turn_behind odd (es ++ e ∷ []) ≡ (if e.there || e.was_there then not (turn_behind odd es) else turn_behind odd es)
+turn_behind-snoc odd [] e = refl
+turn_behind-snoc odd (x ∷ es) e = turn_behind-snoc (if x.there || x.was_there then not odd else odd) es e
 
 either_ascending : (b : Bool) (n : List ℕ) (ns : List (List ℕ)) → IsAscending (n ∷ ns) → IsAscending ns → IsAscending (cond b (n ∷ ns) ns)
 either_ascending true n ns with_it without = with_it

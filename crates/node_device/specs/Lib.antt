@@ -1,13 +1,15 @@
+pub mod Limits
 pub mod File
 pub mod DeviceState
 pub mod Answers
+pub mod Changes
 pub mod Calls
 pub mod Rack
 pub mod Lending
 pub mod Outcomes
 pub mod Written
-pub mod Cells
-pub mod CellFiles
+pub mod Held
+pub mod HeldFiles
 pub mod Entry
 pub mod Entries
 pub mod EntryLists

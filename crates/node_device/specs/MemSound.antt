@@ -1,17 +1,16 @@
 -- What holds of every device in memory.
-use Rattle.std.specs.Prelude.{IsSome, ◌≡◌, true, List, [], ◌∷◌, ℕ, Bool, false, refl, Some, length}
+use Rattle.std.specs.Prelude.{IsSome, ◌≡◌, true, List, [], ◌∷◌, ℕ, Bool, false, refl, length}
 use Rattle.std.specs.Option.{option_map}
 use Rattle.std.specs.Str.{bytes_eq}
-use Rattle.std.proofs.Common.{cond, sym, ap, inl, inr, subst}
-use Rattle.node_device.specs.File.{File, MayLeave, bytes_of}
-use Rattle.node_device.specs.Cells.{present, present_len}
+use Rattle.std.proofs.Common.{cond, inl, inr, subst}
+use Rattle.node_device.specs.File.{File, MayLeave}
 use Rattle.node_device.specs.DeviceState.{IsSound, IsDeviceName}
 use Rattle.node_device.specs.Entry.{entry_file, entry_name}
 use Rattle.node_device.specs.Entries.{file_at}
 use Rattle.node_device.specs.declared.entry.Entry.{Entry}
 use Rattle.node_device.specs.MemState.{mem_state}
 use Rattle.node_device.specs.declared.mem.MemDevice.{MemDevice}
-use Rattle.node_device.specs.CellFiles.{now_allowed, now_length, stable_allowed}
+use Rattle.node_device.specs.HeldFiles.{now_allowed, stable_allowed}
 use Rattle.node_device.specs.EntryLists.{listed, names_ascending, same_name_or_not}
 
 either : (P : File → Type 0) (b : Bool) {f g : File} → P f → P g → P (cond b f g)
@@ -22,10 +21,6 @@ either P false p q = q
 pub file_at_all : (P : File → Type 0) → P (file_at [] []) → ((e : Entry) → P (entry_file e)) → (es : List Entry) (q : List ℕ) → P (file_at es q)
 file_at_all P none each [] q = none
 file_at_all P none each (e ∷ es) q = either P (bytes_eq (entry_name e) q) (each e) (file_at_all P none each es q)
-
-len_is : (there : Bool) (len : ℕ) (bytes : List ℕ) → length (bytes_of (present there bytes)) ≡ len → present_len there len ≡ option_map length (present there bytes)
-len_is true len bytes is = ap Some (sym is)
-len_is false len bytes is = refl
 
 -- a file has a device name
 named : (es : List Entry) (q : List ℕ) → IsSome (file_at es q).len → IsDeviceName q
@@ -41,7 +36,7 @@ mem_sound d = record {
   listed = listed d.entries.items d.ascending;
   named = named d.entries.items;
   fits = d.fits;
-  lengths = λ tells q. file_at_all (λ f. f.len ≡ option_map length f.now) refl (λ e. len_is e.there e.len _ (now_length e.there e.was_there e.fluid e.len e.stable_len e.cells.items e.sound)) d.entries.items q;
-  stable_allowed = λ q. file_at_all (λ f. MayLeave f f.stable) (inr refl) (λ e. stable_allowed e.there e.was_there e.fluid e.len e.stable_len e.cells.items e.sound) d.entries.items q;
-  now_allowed = λ q. file_at_all (λ f. MayLeave f f.now) (inr refl) (λ e. now_allowed e.there e.was_there e.fluid e.len e.stable_len e.cells.items e.sound) d.entries.items q;
+  lengths = λ tells q. file_at_all (λ f. f.len ≡ option_map length f.now) refl (λ e. refl) d.entries.items q;
+  stable_allowed = λ q. file_at_all (λ f. MayLeave f f.stable) (inr refl) (λ e. stable_allowed e.there e.was_there e.fluid e.bytes.items e.kept.items e.stable_len e.greatest e.changes e.sound) d.entries.items q;
+  now_allowed = λ q. file_at_all (λ f. MayLeave f f.now) (inr refl) (λ e. now_allowed e.there e.was_there e.fluid e.bytes.items e.kept.items e.stable_len e.greatest e.changes e.sound) d.entries.items q;
 }

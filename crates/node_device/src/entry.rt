@@ -1,101 +1,165 @@
 // One file of the memory device.
-ghost use Rattle.std.specs.Prelude.{◌≡◌, ◌<◌, ◌≤◌, ◌⊎◌, ◌+◌, ◌-◌, ◌^◌, ℕ, true, false, Option, None, Some, length, take, drop, IsSome, IfOk, OnOk, OnErr, IfErr, max, ◌≢◌, unwrap_or};
-ghost use Rattle.node_device.specs.Cells.{IsSoundCells};
+ghost use Rattle.std.specs.Prelude.{◌≡◌, ◌<◌, ◌≤◌, ◌⊎◌, ◌+◌, ◌-◌, ◌^◌, ℕ, true, false, Option, None, Some, length, take, drop, IsSome, IfOk, OnOk, OnErr, IfErr, max, vec_len, ◌||◌, ◌≢◌};
+ghost use Rattle.node_device.specs.Held.{IsSoundFile};
 ghost use Rattle.node_device.specs.DeviceState.{IsDeviceName};
 
-use crate::DevError;
-use crate::cells::{self, Cell};
+use crate::changes::Changes;
+use crate::outcome::Outcome;
+use crate::{DevError, held};
 use std::alloc::{AllocError, Global};
+use std::mem;
 
+/// What stands under a name: the bytes, and what is wanted to go back to the last sync.
 #[derive(Drop)]
 pub struct Entry {
     pub name: Vec<u8>,
+    /// Whether the file is there now, and whether it was at the last sync.
     pub there: bool,
     pub was_there: bool,
-    pub fluid: bool,
-    pub len: usize,
-    pub stable_len: usize,
-    pub cells: Vec<Cell>,
+    /// It was created or removed since.
+    fluid: bool,
+    pub bytes: Vec<u8>,
+    /// The stable bytes of a file that was removed since; of another they are what the changes go back to.
+    kept: Vec<u8>,
+    stable_len: usize,
+    /// Its greatest length since the last sync.
+    greatest: usize,
+    changes: Changes,
     ghost named: { IsDeviceName name.items },
-    ghost sound: { IsSoundCells there was_there fluid len stable_len cells.items },
+    ghost sound: { IsSoundFile there was_there fluid bytes.items kept.items stable_len greatest changes },
 }
 
 impl Entry {
-    ghost use Rattle.node_device.specs.Cells.{nothing};
+    ghost use Rattle.node_device.specs.Held.{left_by, there_left};
     ghost use Rattle.node_device.specs.Entry.{entry_file, entry_name};
-    ghost use Rattle.node_device.specs.Answers.{SizeAnswers, ReadAnswers, WriteAnswers, max_end};
-    ghost use Rattle.node_device.specs.File.{Torn, IsKept, IsRemoved, IsAtRest, MayLeave, written, grown, bytes_of};
+    ghost use Rattle.node_device.specs.Limits.{max_end};
+    ghost use Rattle.node_device.specs.Answers.{SizeAnswers, ReadAnswers, WriteAnswers};
+    ghost use Rattle.node_device.specs.File.{no_file, Torn, IsKept, IsRemoved, IsAtRest, MayLeave, written, grown, bytes_of};
 
     /// There is nothing, and nothing can come back.
-    pub fn absent(alloc: Global, name: &[u8]) -> Result<Self, AllocError>
+    pub fn absent(alloc: Global, name: &[u8]) -> Result<Entry, AllocError>
         requires { IsDeviceName name.now }
         ensures name { IfOk result (λ e. entry_name e ≡ name.now) }
-        ensures file { IfOk result (λ e. entry_file e ≡ nothing) }
-        ensures room { IfOk result (λ e. length e.cells.items ≡ 0) }
+        ensures len { IfOk result (λ e. (entry_file e).len ≡ None) }
+        ensures now { IfOk result (λ e. (entry_file e).now ≡ None) }
+        ensures at_rest { IfOk result (λ e. IsAtRest (entry_file e)) }
     {
         Ok(Entry {
             name: name.to_vec(alloc)?,
             there: false,
             was_there: false,
             fluid: false,
-            len: 0,
+            bytes: Vec::new(alloc),
+            kept: Vec::new(alloc),
             stable_len: 0,
-            cells: Vec::new(alloc),
+            greatest: 0,
+            changes: Changes::none(alloc),
         })
     }
 
-    pub fn put(&mut self, at: usize, bytes: &[u8]) -> Result<(), AllocError>
-        requires { at + length bytes.now ≤ 1073741824 }
+    /// Writes bytes at a place.
+    pub fn put(&mut self, alloc: Global, at: usize, bytes: &[u8]) -> Result<(), AllocError>
+        requires { at + length bytes.now ≤ max_end }
         ensures name { entry_name self.new ≡ entry_name self.old }
         ensures len { OnOk result ((entry_file self.new).len ≡ Some (grown (entry_file self.old).len at (length bytes.now))) }
         ensures now { OnOk result ((entry_file self.new).now ≡ Some (written (bytes_of (entry_file self.old).now) at bytes.now)) }
         ensures torn { Torn at (length bytes.now) (entry_file self.old) (entry_file self.new) }
-        ensures err { OnErr result (entry_file self.new ≡ entry_file self.old) }
-        ensures room { OnOk result (length self.new.cells.items ≤ max (length self.old.cells.items) (at + length bytes.now)) }
+        ensures err { OnErr result (IsKept (entry_file self.old) (entry_file self.new)) }
+        ensures size { OnOk result (vec_len self.new.bytes ≡ max (vec_len self.old.bytes) (at + length bytes.now)) }
+        ensures size_err { OnErr result (vec_len self.new.bytes ≡ vec_len self.old.bytes) }
         ensures there { OnErr result (self.new.there ≡ self.old.there) }
-        ensures room_err { OnErr result (length self.new.cells.items ≡ length self.old.cells.items) }
-        ensures full { OnErr result (self.old.len < at + length bytes.now) }
+        ensures short { OnErr result (8 < at + length bytes.now ⊎ length self.old.bytes.items < at + length bytes.now) }
     {
         let end = at + bytes.len();
-        cells::write(&mut self.cells, at, bytes)?;
+        self.changes
+            .note(alloc, &self.bytes, at, end, self.stable_len)?;
+        held::put(&mut self.bytes, at, bytes)?;
         self.fluid = self.fluid | !self.there;
         self.there = true;
-        self.len = self.len.max(end);
+        self.greatest = self.greatest.max(end);
         Ok(())
     }
 
-    /// Whether a write is refused, where so much is used, and the files may have so many bytes.
-    fn check_room(
-        &self,
-        used: u64,
-        capacity: u64,
-        room: u64,
-        at: usize,
-        len: usize,
-    ) -> Result<(), DevError>
+    /// Removes the file. What was stable is put aside.
+    pub fn remove(&mut self, alloc: Global)
+        ensures name { entry_name self.new ≡ entry_name self.old }
+        ensures empty { vec_len self.new.bytes ≡ 0 }
+        ensures removed { IsRemoved (entry_file self.old) (entry_file self.new) }
+    {
+        let bytes = mem::replace(&mut self.bytes, Vec::new(alloc));
+        let kept = mem::replace(&mut self.kept, Vec::new(alloc));
+        self.kept = held::left_of(
+            Outcome::AsStable,
+            self.fluid,
+            bytes,
+            kept,
+            self.stable_len,
+            &self.changes,
+        );
+        self.stable_len = 0;
+        self.fluid = true;
+        self.there = false;
+    }
+
+    /// Leaves an outcome of a stop, and makes it stable.
+    pub fn stop(&mut self, alloc: Global, outcome: Outcome)
+        ensures name { entry_name self.new ≡ entry_name self.old }
+        ensures now { (entry_file self.new).now ≡ left_by outcome (entry_file self.old) }
+        ensures at_rest { IsAtRest (entry_file self.new) }
+        ensures allowed { MayLeave (entry_file self.old) (entry_file self.new).now }
+        ensures there { self.new.there ≡ there_left outcome self.old.there self.old.was_there }
+    {
+        let bytes = mem::replace(&mut self.bytes, Vec::new(alloc));
+        let kept = mem::replace(&mut self.kept, Vec::new(alloc));
+        self.bytes = held::left_of(
+            outcome,
+            self.fluid,
+            bytes,
+            kept,
+            self.stable_len,
+            &self.changes,
+        );
+        self.there = held::leaves_file(outcome, self.there, self.was_there);
+        self.was_there = self.there;
+        self.fluid = false;
+        self.stable_len = self.bytes.len();
+        self.greatest = self.bytes.len();
+        self.changes.settle(&self.bytes);
+    }
+
+    /// Its length now, in bytes.
+    pub fn len(&self) -> u64
+        ensures { result ≡ vec_len self.now.bytes }
+    {
+        self.bytes.len() as u64
+    }
+
+    /// Whether it is there, or was at the last sync.
+    pub fn is_known(&self) -> bool
+        ensures { result ≡ (self.now.there || self.now.was_there) }
+    {
+        self.there | self.was_there
+    }
+
+    /// Whether a write is refused, where so much of the device is used.
+    fn check_room(&self, used: u64, capacity: u64, at: usize, len: usize) -> Result<(), DevError>
         requires { at + len ≤ max_end }
         ensures answer { WriteAnswers (entry_file self.now) used capacity at len result }
-        ensures room { OnOk result (room + (at + len - length self.now.cells.items) < 2 ^ 64) }
-        ensures no_fault { IfErr result (λ e. e ≢ DevError.Failed) }
+        ensures full { IfErr result (λ e. e ≡ DevError.Full) }
     {
-        let end = at + len;
-        let growth = end.saturating_sub(self.len) as u64;
+        let growth = (at + len).saturating_sub(self.bytes.len()) as u64;
         if growth > 0 && (used > capacity || growth > capacity - used) {
             return Err(DevError::Full);
         }
-        let more = end.saturating_sub(self.cells.len()) as u64;
-        if more > u64::MAX - room {
-            return Err(DevError::Memory);
-        }
         Ok(())
     }
 
-    /// Writes bytes at a place, where so much is used, and the files may have so many bytes.
+    /// Writes bytes at a place, where so much of the device is used.
     pub fn write(
         &mut self,
+        alloc: Global,
         used: u64,
         capacity: u64,
-        room: u64,
         at: usize,
         bytes: &[u8],
     ) -> Result<(), DevError>
@@ -107,23 +171,11 @@ impl Entry {
         ensures torn { Torn at (length bytes.now) (entry_file self.old) (entry_file self.new) }
         ensures err { OnErr result (IsKept (entry_file self.old) (entry_file self.new)) }
         ensures there { OnErr result (self.new.there ≡ self.old.there) }
-        ensures room { room < 2 ^ 64 → room + length self.new.cells.items < 2 ^ 64 + length self.old.cells.items }
         ensures no_fault { IfErr result (λ e. e ≢ DevError.Failed) }
     {
-        self.check_room(used, capacity, room, at, bytes.len())?;
-        self.put(at, bytes)?;
+        self.check_room(used, capacity, at, bytes.len())?;
+        self.put(alloc, at, bytes)?;
         Ok(())
-    }
-
-    pub fn remove(&mut self)
-        ensures name { entry_name self.new ≡ entry_name self.old }
-        ensures room { length self.new.cells.items ≡ length self.old.cells.items }
-        ensures removed { IsRemoved (entry_file self.old) (entry_file self.new) }
-    {
-        cells::clear(&mut self.cells);
-        self.fluid = true;
-        self.there = false;
-        self.len = 0;
     }
 
     pub fn size(&self) -> Result<u64, DevError>
@@ -131,13 +183,13 @@ impl Entry {
         ensures no_fault { IfErr result (λ e. e ≢ DevError.Failed) }
     {
         if self.there {
-            Ok(self.len as u64)
+            Ok(self.len())
         } else {
             Err(DevError::NoFile)
         }
     }
 
-    /// Fills `into` with the bytes at a place.
+    /// Fills `into` with the bytes from a place on.
     pub fn read(&self, at: u64, into: &mut [u8]) -> Result<(), DevError>
         ensures answer { ReadAnswers (entry_file self.now) at (length into.old) result }
         ensures bytes { OnOk result (into.new ≡ take (length into.old) (drop at (bytes_of (entry_file self.now).now))) }
@@ -146,54 +198,12 @@ impl Entry {
         if !self.there {
             return Err(DevError::NoFile);
         }
-        let len = self.len as u64;
+        let len = self.len();
         if at > len || into.len() as u64 > len - at {
             return Err(DevError::Range);
         }
-        cells::read(&self.cells, at as usize, into);
+        let from = at as usize;
+        into.copy_from_slice(&self.bytes[from..from + into.len()]);
         Ok(())
-    }
-
-    /// Makes all that a read gives stable.
-    pub fn settle(&mut self)
-        ensures there { self.new.there ≡ self.old.there }
-        ensures room { length self.new.cells.items ≤ length self.old.cells.items }
-        ensures name { entry_name self.new ≡ entry_name self.old }
-        ensures len { (entry_file self.new).len ≡ (entry_file self.old).len }
-        ensures now { (entry_file self.new).now ≡ (entry_file self.old).now }
-        ensures at_rest { IsAtRest (entry_file self.new) }
-        ensures allowed { MayLeave (entry_file self.old) (entry_file self.new).now }
-    {
-        cells::settle(&mut self.cells, self.len);
-        self.was_there = self.there;
-        self.stable_len = self.len;
-        self.fluid = false;
-    }
-
-    /// Stops, and leaves what the last sync made sure of.
-    pub fn fall_back(&mut self)
-        ensures name { entry_name self.new ≡ entry_name self.old }
-        ensures now { (entry_file self.new).now ≡ (entry_file self.old).stable }
-        ensures at_rest { IsAtRest (entry_file self.new) }
-        ensures allowed { MayLeave (entry_file self.old) (entry_file self.new).now }
-    {
-        cells::take_back(&mut self.cells);
-        self.there = self.was_there;
-        self.len = self.stable_len;
-        self.fluid = false;
-        self.settle();
-    }
-
-    /// Stops, and leaves another value in each touched byte.
-    pub fn scramble(&mut self)
-        ensures name { entry_name self.new ≡ entry_name self.old }
-        ensures at_rest { IsAtRest (entry_file self.new) }
-        ensures allowed { MayLeave (entry_file self.old) (entry_file self.new).now }
-    {
-        cells::scramble(&mut self.cells);
-        cells::settle(&mut self.cells, self.len);
-        self.was_there = self.there;
-        self.stable_len = self.len;
-        self.fluid = false;
     }
 }

@@ -2,10 +2,12 @@
 #![tactic(auto)]
 
 mod bay;
-mod cells;
+mod changes;
 mod device;
 mod entry;
+mod held;
 mod mem;
+mod outcome;
 
 pub use bay::{Bay, Ran};
 pub use device::{DevError, Device};
