@@ -44,7 +44,7 @@ below_other a b lt = λ e. absurd (cc (is_eq-slice_cmp a b, bytes_eq_same a b e,
 pub name_is : (es : List Entry) (i : ℕ) (e : Entry) → i < length es → e ≡ get_or es i e → name_at es i ≡ entry_name e
 name_is es i e lt is = get_or-map entry_name es i e [] lt ∙ ap entry_name (sym is)
 
-tail_ascending : (n : List ℕ) (ns : List (List ℕ)) → IsAscending (n ∷ ns) → IsAscending ns
+pub tail_ascending : (n : List ℕ) (ns : List (List ℕ)) → IsAscending (n ∷ ns) → IsAscending ns
 tail_ascending n ns asc i j lt below = asc (suc i) (suc j) (omega arith) (omega arith)
 
 -- what stands under the name of an entry
@@ -109,7 +109,7 @@ names-set es i e is = map-set entry_name es i e ∙ ap (λ (n : List ℕ). set (
 pub ascending-set : (es : List Entry) (i : ℕ) (e : Entry) → entry_name e ≡ name_at es i → IsAscending (map entry_name es) → IsAscending (map entry_name (set es i e))
 ascending-set es i e is asc = subst (λ (ns : List (List ℕ)). IsAscending ns) (sym (names-set es i e is)) asc
 
-cons_ascending : (x : List ℕ) (ns : List (List ℕ)) → ((k : ℕ) → k < length ns → slice_cmp nat_cmp x (get_or ns k []) ≡ Less) → IsAscending ns → IsAscending (x ∷ ns)
+pub cons_ascending : (x : List ℕ) (ns : List (List ℕ)) → ((k : ℕ) → k < length ns → slice_cmp nat_cmp x (get_or ns k []) ≡ Less) → IsAscending ns → IsAscending (x ∷ ns)
 cons_ascending x ns first asc zero zero lt below = absurd (omega arith)
 cons_ascending x ns first asc zero (suc j) lt below = first j (omega arith)
 cons_ascending x ns first asc (suc i) zero lt below = absurd (omega arith)
@@ -145,7 +145,7 @@ ascending-insert es i e asc le before after = subst (λ (ns : List (List ℕ)). 
     (insert_ascending (map entry_name es) i (entry_name e) asc (omega (arith, length-map es entry_name)) before (λ lt. after (omega (arith, length-map es entry_name))))
 
 -- a name that is listed is that of an entry
-step_in : (b : Bool) (n : List ℕ) (ns : List (List ℕ)) (q : List ℕ) → Contains (cond b (n ∷ ns) ns) q → ((b ≡ true) × (n ≡ q)) ⊎ Contains ns q
+pub step_in : (b : Bool) (n : List ℕ) (ns : List (List ℕ)) (q : List ℕ) → Contains (cond b (n ∷ ns) ns) q → ((b ≡ true) × (n ≡ q)) ⊎ Contains ns q
 step_in true n ns q (zero, lt, at) = inl (refl, at)
 step_in true n ns q (suc k, lt, at) = inr (k, omega arith, at)
 step_in false n ns q has = inr has
@@ -172,7 +172,7 @@ to_len (e ∷ es) asc q has = elim (step_in e.there (entry_name e) (names_of es)
       (to_len es (tail_ascending (entry_name e) (map entry_name es) asc) q later)
 ]
 
-later_in : (b : Bool) (n : List ℕ) (ns : List (List ℕ)) (q : List ℕ) → Contains ns q → Contains (cond b (n ∷ ns) ns) q
+pub later_in : (b : Bool) (n : List ℕ) (ns : List (List ℕ)) (q : List ℕ) → Contains ns q → Contains (cond b (n ∷ ns) ns) q
 later_in true n ns q (k, lt, at) = (suc k, omega arith, at)
 later_in false n ns q has = has
 
@@ -180,7 +180,7 @@ there_of : (b : Bool) (xs : List ℕ) → IsSome (option_map length (present b x
 there_of true xs some = refl
 there_of false xs some = absurd (cc some)
 
-first_in : (b : Bool) (n : List ℕ) (ns : List (List ℕ)) (q : List ℕ) → b ≡ true → n ≡ q → Contains (cond b (n ∷ ns) ns) q
+pub first_in : (b : Bool) (n : List ℕ) (ns : List (List ℕ)) (q : List ℕ) → b ≡ true → n ≡ q → Contains (cond b (n ∷ ns) ns) q
 first_in true n ns q there same = (zero, omega arith, same)
 first_in false n ns q there same = absurd (cc there)
 
@@ -402,7 +402,7 @@ pub turn_behind-snoc : (odd : Bool) (es : List Entry) (e : Entry) → turn_behin
 turn_behind-snoc odd [] e = refl
 turn_behind-snoc odd (x ∷ es) e = turn_behind-snoc (if x.there || x.was_there then not odd else odd) es e
 
-either_ascending : (b : Bool) (n : List ℕ) (ns : List (List ℕ)) → IsAscending (n ∷ ns) → IsAscending ns → IsAscending (cond b (n ∷ ns) ns)
+pub either_ascending : (b : Bool) (n : List ℕ) (ns : List (List ℕ)) → IsAscending (n ∷ ns) → IsAscending ns → IsAscending (cond b (n ∷ ns) ns)
 either_ascending true n ns with_it without = with_it
 either_ascending false n ns with_it without = without
 

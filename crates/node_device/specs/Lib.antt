@@ -13,5 +13,6 @@ pub mod HeldFiles
 pub mod Entry
 pub mod Entries
 pub mod EntryLists
+pub mod Picks
 pub mod MemState
 pub mod MemSound

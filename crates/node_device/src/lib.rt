@@ -6,6 +6,7 @@ mod changes;
 mod device;
 mod entry;
 mod held;
+pub mod laws;
 mod mem;
 mod outcome;
 

@@ -298,6 +298,9 @@ impl MemDevice {
 impl Device for MemDevice {
     ghost use Rattle.node_device.specs.MemState.{mem_state};
     ghost use Rattle.node_device.specs.MemSound.{mem_sound};
+    ghost use Rattle.node_device.specs.Picks.{IsPicked};
+    ghost use Rattle.node_device.specs.File.{MayLeave, IsAtRest, IsEmpty};
+    ghost use Rattle.node_device.specs.DeviceState.{TellsOn};
 
     ghost state = { mem_state };
 
@@ -361,11 +364,25 @@ impl Device for MemDevice {
         self.faults
     }
 
-    fn crash(&mut self, pick: u8) {
+    fn crash(&mut self, pick: u8)
+        requires { pick ≤ 3 }
+        ensures tells { TellsOn (mem_state self.old) (mem_state self.new) }
+        ensures outcome { (mem_state self.new).tells ≡ true → (q : List ℕ) → MayLeave ((mem_state self.old).file q) ((mem_state self.new).file q).now }
+        ensures at_rest { (q : List ℕ) → IsAtRest ((mem_state self.new).file q) }
+        ensures picked { IsPicked pick (mem_state self.old) (mem_state self.new) }
+        ensures goes_on { (mem_state self.new).tells ≡ true }
+        ensures no_fault { (mem_state self.new).faults ≡ (mem_state self.old).faults }
+    {
         self.leave(pick);
     }
 
-    fn wipe(&mut self) {
+    fn wipe(&mut self)
+        ensures tells { TellsOn (mem_state self.old) (mem_state self.new) }
+        ensures names { (mem_state self.new).names ≡ [] }
+        ensures empty { (q : List ℕ) → IsEmpty ((mem_state self.new).file q) }
+        ensures goes_on { (mem_state self.new).tells ≡ true }
+        ensures no_fault { (mem_state self.new).faults ≡ (mem_state self.old).faults }
+    {
         self.entries.clear();
         self.used = 0;
     }
