@@ -1,6 +1,6 @@
 -- A stop that leaves the files by turns.
-use Rattle.std.proofs.Common.{◌≡◌, ◌≢◌, ◌⊎◌, inl, inr, ◌<◌, ◌≤◌, ◌+◌, ℕ, zero, suc, Bool, true, false, cond, ◌||◌, not, List, [], ◌∷◌, map, length, take, get_or, Option, None, Some, refl, sym, ◌∙◌, ap, subst, arith}
-use Rattle.std.specs.Prelude.{IsSome, is_some, Contains, ◌↔◌}
+use Rattle.std.proofs.Common.{◌≡◌, ◌≢◌, ◌⊎◌, inl, inr, ◌<◌, ℕ, zero, suc, Bool, true, false, cond, ◌||◌, not, List, [], ◌∷◌, map, length, take, get_or, Option, None, refl, sym, ◌∙◌, ap, subst, arith}
+use Rattle.std.specs.Prelude.{IsSome, Contains}
 use Rattle.std.specs.Option.{option_map}
 use Rattle.std.specs.Str.{bytes_eq}
 use Rattle.std.specs.Cmp.Lexicographic.{slice_cmp}
@@ -13,7 +13,6 @@ use Rattle.node_device.specs.Entry.{entry_file, entry_name}
 use Rattle.node_device.specs.DeviceState.{IsAscending}
 use Rattle.node_device.specs.Entries.{file_at, name_at, turn_behind, outcome_for, IsStopOf}
 use Rattle.node_device.specs.EntryLists.{same_name_or_not, bytes_eq_same, bytes_eq_other, below_other, file_at_each, tail_ascending, step_in, later_in, first_in, cons_ascending, either_ascending}
-use Rattle.node_device.specs.Outcomes.{true_or_false}
 use Rattle.node_device.specs.Picks.{turns_of, AreKnown}
 use Rattle.node_device.specs.declared.entry.Entry.{Entry}
 use Rattle.node_device.specs.declared.outcome.Outcome.{Outcome}
@@ -111,7 +110,7 @@ first_turn : (known odd : Bool) (e : Entry) (es : List Entry) (q : List ℕ) (no
     → now ≡ turns_of odd (cond known (entry_name e ∷ known_of es) (known_of es)) (file_at (e ∷ es)) q
 first_turn true odd e es q now known asc same left =
     left ∙ sym (ap (λ b. cond b (cond odd (file_at (e ∷ es) (entry_name e)).now (file_at (e ∷ es) (entry_name e)).stable) (turns_of (not odd) (known_of es) (file_at (e ∷ es)) q)) (bytes_eq_same (entry_name e) q same)
-      ∙ ap (λ b. cond odd (cond b (entry_file e) (file_at es (entry_name e))).now (cond b (entry_file e) (file_at es (entry_name e))).stable) (bytes_eq_same (entry_name e) (entry_name e) refl))
+    ∙ ap (λ b. cond odd (cond b (entry_file e) (file_at es (entry_name e))).now (cond b (entry_file e) (file_at es (entry_name e))).stable) (bytes_eq_same (entry_name e) (entry_name e) refl))
 first_turn false odd e es q now known asc same left =
     left ∙ left_none odd e.there e.was_there e.bytes.items _ known ∙ sym (turns_none odd (known_of es) (file_at (e ∷ es)) q (λ k lt is. below_other (entry_name e) (get_or (known_of es) k []) (known_other e es asc k lt) (same ∙ sym is)))
 

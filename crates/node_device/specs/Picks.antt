@@ -1,5 +1,5 @@
 -- What the memory device leaves at a stop, by the number that picks.
-use Rattle.std.specs.Prelude.{◌≡◌, ◌⊎◌, ◌↔◌, ℕ, Bool, true, false, not, List, [], ◌∷◌, Option, None, IsSome, Contains, if◌then◌else◌}
+use Rattle.std.specs.Prelude.{◌≡◌, ◌⊎◌, ◌↔◌, ℕ, Bool, true, not, List, [], ◌∷◌, Option, None, IsSome, Contains, if◌then◌else◌}
 use Rattle.std.specs.Option.{option_map}
 use Rattle.std.specs.Str.{bytes_eq}
 use Rattle.node_device.specs.File.{File}

@@ -127,3 +127,11 @@ impl<T: Drop> From<AllocFailed<T>> for DevError {
         DevError::Memory
     }
 }
+
+impl From<scr_base::Memory> for DevError {
+    ghost from_gives = { λ _ e. e ≡ Memory };
+
+    fn from(_error: scr_base::Memory) -> DevError {
+        DevError::Memory
+    }
+}

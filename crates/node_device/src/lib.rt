@@ -13,3 +13,6 @@ mod outcome;
 pub use bay::{Bay, Ran};
 pub use device::{DevError, Device};
 pub use mem::MemDevice;
+
+#[cfg(test)]
+mod tests;

@@ -1,4 +1,4 @@
-use Rattle.std.proofs.Common.{List, ℕ, Option, subst}
+use Rattle.std.proofs.Common.{subst}
 use Rattle.node_device.specs.File.{File, MayLeave}
 use Rattle.node_device.proofs.laws.others_stay.Goals as goal
 
