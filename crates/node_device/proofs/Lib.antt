@@ -1,0 +1,5 @@
+pub mod Racks
+pub mod ChangeLists
+pub mod HeldChanges
+pub mod Places
+pub mod Turns

@@ -1,0 +1,389 @@
+// A device in memory.
+ghost use Rattle.std.specs.Prelude.{◌≡◌, ◌≢◌, ◌<◌, ◌≤◌, ◌⊎◌, ◌+◌, ◌-◌, ◌^◌, ℕ, Bool, true, false, List, [], Option, None, Some, Ok, Err, map, take, length, get_or, MatchOption, IfOk, OnOk, OnErr, IfErr, not, if◌then◌else◌};
+ghost use Rattle.std.specs.Cmp.Lexicographic.{slice_cmp};
+ghost use Rattle.std.specs.Ordering.{nat_cmp};
+ghost use Rattle.std.specs.declared.cmp.Ordering.TheVariants.{Less};
+ghost use Rattle.node_device.specs.Limits.{max_end};
+ghost use Rattle.node_device.specs.Answers.{WriteAnswers, RemoveAnswers};
+ghost use Rattle.node_device.specs.Entry.{entry_name, entry_file};
+ghost use Rattle.node_device.specs.File.{no_file};
+ghost use Rattle.node_device.specs.DeviceState.{IsAscending};
+ghost use Rattle.node_device.specs.Entries.{name_at, file_at, names_of, used_by, outcome_for, turn_behind, IsStopOf};
+
+use crate::entry::Entry;
+use crate::outcome::Outcome;
+use crate::{DevError, Device};
+use scr_base::{Bytes, Memory};
+use std::alloc::{AllocError, Global};
+use std::cmp::Ordering;
+
+/// A device in memory, which tells its contents. A write costs its bytes, a sync what was changed since the last one,
+/// beside a step for each file, and a look-up a binary search.
+#[derive(Drop)]
+pub struct MemDevice {
+    alloc: Global,
+    /// By ascending name. The entry of a file that was removed stays, without bytes.
+    entries: Vec<Entry>,
+    used: u64,
+    capacity: u64,
+    calls: u64,
+    faults: u64,
+    fail: Vec<u64>,
+    ghost ascending: { IsAscending (map entry_name entries.items) },
+    ghost counted: { used ≡ used_by entries.items },
+    ghost few: { length entries.items ≤ 2 ^ 33 },
+    ghost fits: { faults < 2 ^ 64 },
+}
+
+const MAX_END: u64 = 1073741824;
+
+const MAX_ENTRIES: usize = 8589934592;
+
+/// The place of a name, or where it would stand.
+fn place(entries: &[Entry], name: &[u8]) -> Result<usize, usize>
+    requires { IsAscending (map entry_name entries.now) }
+    ensures found { IfOk result (λ i. i < length entries.now × name_at entries.now i ≡ name.now) }
+    ensures absent { IfErr result (λ i. i ≤ length entries.now × ((j : ℕ) → j < i → slice_cmp nat_cmp (name_at entries.now j) name.now ≡ Less) × (i < length entries.now → slice_cmp nat_cmp name.now (name_at entries.now i) ≡ Less)) }
+{
+    let mut low = 0;
+    let mut high = entries.len();
+    while low < high {
+        let middle = low + (high - low) / 2;
+        match entries[middle].name.as_slice().cmp(name) {
+            Ordering::Less => low = middle + 1,
+            Ordering::Equal => return Ok(middle),
+            Ordering::Greater => high = middle,
+        }
+    }
+    Err(low)
+}
+
+/// The outcome that a number picks for a file whose turn is an odd one or not.
+fn outcome_of(pick: u8, odd: bool) -> Outcome
+    ensures { result ≡ outcome_for pick odd }
+{
+    match pick {
+        0 => Outcome::AsRead,
+        1 => Outcome::AsStable,
+        2 => Outcome::Scrambled,
+        _ => {
+            if odd {
+                Outcome::AsRead
+            } else {
+                Outcome::AsStable
+            }
+        }
+    }
+}
+
+/// The turn behind a file.
+fn next_turn(odd: bool, known: bool) -> bool
+    ensures { result ≡ (if known then not odd else odd) }
+{
+    odd != known
+}
+
+/// Stops each file.
+fn stop_each(entries: &mut [Entry], alloc: Global, pick: u8)
+    ensures { (k : ℕ) (d : Entry) → k < length entries.old → IsStopOf (outcome_for pick (turn_behind true (take k entries.old))) (get_or entries.old k d) (get_or entries.new k d) }
+{
+    let mut odd = true;
+    for entry in entries.iter_mut() {
+        let outcome = outcome_of(pick, odd);
+        odd = next_turn(odd, entry.is_known());
+        entry.stop(alloc, outcome);
+    }
+}
+
+fn stop_entries(entries: &mut Vec<Entry>, alloc: Global, pick: u8)
+    ensures len { length entries.new.items ≡ length entries.old.items }
+    ensures each { (k : ℕ) (d : Entry) → k < length entries.old.items → IsStopOf (outcome_for pick (turn_behind true (take k entries.old.items))) (get_or entries.old.items k d) (get_or entries.new.items k d) }
+{
+    stop_each(entries, alloc, pick);
+}
+
+fn list_names(alloc: Global, entries: &[Entry]) -> Result<Vec<Bytes>, AllocError>
+    ensures { IfOk result (λ names. names.items ≡ names_of entries.now) }
+{
+    let mut names = Vec::new(alloc);
+    for entry in entries {
+        if entry.there {
+            names.push(Bytes::of(entry.name.to_vec(alloc)?))?;
+        }
+    }
+    Ok(names)
+}
+
+fn sum_of_lens(entries: &[Entry]) -> u64
+    requires { used_by entries.now < 2 ^ 64 }
+    ensures { result ≡ used_by entries.now }
+{
+    entries.iter().map(|entry| entry.len()).sum()
+}
+
+/// Whether the first write to a file is refused.
+fn check_new(used: u64, capacity: u64, count: usize, at: usize, len: usize) -> Result<(), DevError>
+    requires { at + len ≤ max_end }
+    ensures answer { WriteAnswers no_file used capacity at len result }
+    ensures count { OnOk result (count < 2 ^ 33) }
+    ensures no_fault { IfErr result (λ e. e ≢ DevError.Failed) }
+{
+    let growth = (at + len) as u64;
+    if growth > 0 && (used > capacity || growth > capacity - used) {
+        return Err(DevError::Full);
+    }
+    if count >= MAX_ENTRIES {
+        return Err(DevError::Memory);
+    }
+    Ok(())
+}
+
+impl MemDevice {
+    ghost use Rattle.node_device.specs.MemState.{mem_state};
+    ghost use Rattle.node_device.specs.File.{IsEmpty};
+    ghost use Rattle.node_device.specs.DeviceState.{IsUnchanged};
+    ghost use Rattle.node_device.specs.Answers.{HasDeviceCause};
+
+    /// An empty device. Of its calls size, read, write, sync, remove and names, counted from 1, those listed fail.
+    pub fn new(alloc: Global, capacity: u64, fail: Vec<u64>) -> Result<MemDevice, Memory>
+        ensures tells { IfOk result (λ d. (mem_state d).tells ≡ true) }
+        ensures names { IfOk result (λ d. (mem_state d).names ≡ []) }
+        ensures empty { IfOk result (λ d. (q : List ℕ) → IsEmpty ((mem_state d).file q)) }
+        ensures capacity { IfOk result (λ d. (mem_state d).capacity ≡ capacity) }
+        ensures faults { IfOk result (λ d. (mem_state d).faults ≡ 0) }
+    {
+        Ok(MemDevice {
+            alloc,
+            entries: Vec::new(alloc),
+            used: 0,
+            capacity,
+            calls: 0,
+            faults: 0,
+            fail,
+        })
+    }
+
+    /// Counts a call, and says whether it fails.
+    fn count_call(&mut self) -> Result<(), DevError>
+        ensures same { IsUnchanged (mem_state self.old) (mem_state self.new) }
+        ensures entries { self.new.entries.items ≡ self.old.entries.items }
+        ensures cause { HasDeviceCause (mem_state self.old) (mem_state self.new) result }
+        ensures failed { IfErr result (λ e. e ≡ DevError.Failed) }
+    {
+        self.calls = self.calls.saturating_add(1);
+        if self.fail.contains(&self.calls) {
+            self.faults = self.faults.saturating_add(1);
+            return Err(DevError::Failed);
+        }
+        Ok(())
+    }
+}
+
+impl MemDevice {
+    ghost use Rattle.node_device.specs.MemState.{mem_state};
+    ghost use Rattle.node_device.specs.File.{Torn, IsRemoved, IsAtRest, IsPartlySynced, written, grown, bytes_of};
+    ghost use Rattle.node_device.specs.DeviceState.{ChangesOnly, ReadsAlike, IsDeviceName, used_of};
+
+    fn used_now(&self) -> u64
+        ensures { result ≡ used_of (mem_state self.now) }
+    {
+        self.used
+    }
+
+    /// Writes to the file of an entry.
+    fn write_entry(&mut self, i: usize, at: usize, bytes: &[u8]) -> Result<(), DevError>
+        requires i { i < length self.old.entries.items }
+        requires end { at + length bytes.now ≤ max_end }
+        ensures answer { WriteAnswers ((mem_state self.old).file (name_at self.old.entries.items i)) (used_of (mem_state self.old)) self.old.capacity at (length bytes.now) result }
+        ensures len { OnOk result (((mem_state self.new).file (name_at self.old.entries.items i)).len ≡ Some (grown ((mem_state self.old).file (name_at self.old.entries.items i)).len at (length bytes.now))) }
+        ensures now { OnOk result (((mem_state self.new).file (name_at self.old.entries.items i)).now ≡ Some (written (bytes_of ((mem_state self.old).file (name_at self.old.entries.items i)).now) at bytes.now)) }
+        ensures torn { Torn at (length bytes.now) ((mem_state self.old).file (name_at self.old.entries.items i)) ((mem_state self.new).file (name_at self.old.entries.items i)) }
+        ensures refused { OnErr result (ReadsAlike (mem_state self.old) (mem_state self.new)) }
+        ensures only { ChangesOnly (name_at self.old.entries.items i) (mem_state self.old) (mem_state self.new) }
+        ensures faults { self.new.faults ≡ self.old.faults }
+        ensures no_fault { IfErr result (λ e. e ≢ DevError.Failed) }
+    {
+        let used = self.used_now();
+        let before = self.entries[i].len();
+        let result = self.entries[i].write(self.alloc, used, self.capacity, at, bytes);
+        self.used = used - before + self.entries[i].len();
+        result
+    }
+
+    /// Writes to a file under a name that no entry has.
+    fn write_new(&mut self, i: usize, name: &[u8], at: usize, bytes: &[u8]) -> Result<(), DevError>
+        requires name { IsDeviceName name.now }
+        requires i { i ≤ length self.old.entries.items }
+        requires before { (j : ℕ) → j < i → slice_cmp nat_cmp (name_at self.old.entries.items j) name.now ≡ Less }
+        requires after { i < length self.old.entries.items → slice_cmp nat_cmp name.now (name_at self.old.entries.items i) ≡ Less }
+        requires absent { (mem_state self.old).file name.now ≡ no_file }
+        requires end { at + length bytes.now ≤ max_end }
+        ensures answer { WriteAnswers ((mem_state self.old).file name.now) (used_of (mem_state self.old)) self.old.capacity at (length bytes.now) result }
+        ensures len { OnOk result (((mem_state self.new).file name.now).len ≡ Some (grown ((mem_state self.old).file name.now).len at (length bytes.now))) }
+        ensures now { OnOk result (((mem_state self.new).file name.now).now ≡ Some (written (bytes_of ((mem_state self.old).file name.now).now) at bytes.now)) }
+        ensures torn { Torn at (length bytes.now) ((mem_state self.old).file name.now) ((mem_state self.new).file name.now) }
+        ensures refused { OnErr result (ReadsAlike (mem_state self.old) (mem_state self.new)) }
+        ensures only { ChangesOnly name.now (mem_state self.old) (mem_state self.new) }
+        ensures faults { self.new.faults ≡ self.old.faults }
+        ensures no_fault { IfErr result (λ e. e ≢ DevError.Failed) }
+    {
+        let used = self.used_now();
+        check_new(used, self.capacity, self.entries.len(), at, bytes.len())?;
+        let mut entry = Entry::absent(self.alloc, name)?;
+        entry.put(self.alloc, at, bytes)?;
+        let added = entry.len();
+        self.entries.insert(i, entry)?;
+        self.used = used + added;
+        Ok(())
+    }
+
+    /// Removes the file of an entry.
+    fn remove_entry(&mut self, i: usize) -> Result<(), DevError>
+        requires { i < length self.old.entries.items }
+        ensures answer { RemoveAnswers ((mem_state self.old).file (name_at self.old.entries.items i)) result }
+        ensures removed { OnOk result (IsRemoved ((mem_state self.old).file (name_at self.old.entries.items i)) ((mem_state self.new).file (name_at self.old.entries.items i))) }
+        ensures refused { OnErr result (mem_state self.new ≡ mem_state self.old) }
+        ensures only { ChangesOnly (name_at self.old.entries.items i) (mem_state self.old) (mem_state self.new) }
+        ensures faults { self.new.faults ≡ self.old.faults }
+        ensures no_fault { IfErr result (λ e. e ≢ DevError.Failed) }
+    {
+        if !self.entries[i].there {
+            return Err(DevError::NoFile);
+        }
+        self.used -= self.entries[i].len();
+        self.entries[i].remove(self.alloc);
+        Ok(())
+    }
+
+    /// Leaves the outcome that a number picks, and makes it stable.
+    fn leave(&mut self, pick: u8)
+        requires { pick ≤ 3 }
+        ensures len { length self.new.entries.items ≡ length self.old.entries.items }
+        ensures each { (k : ℕ) (d : Entry) → k < length self.old.entries.items → IsStopOf (outcome_for pick (turn_behind true (take k self.old.entries.items))) (get_or self.old.entries.items k d) (get_or self.new.entries.items k d) }
+        ensures faults { self.new.faults ≡ self.old.faults }
+        ensures capacity { self.new.capacity ≡ self.old.capacity }
+    {
+        stop_entries(&mut self.entries, self.alloc, pick);
+        self.used = sum_of_lens(&self.entries);
+    }
+
+    /// Makes all that a read gives stable.
+    fn settle(&mut self)
+        ensures alike { ReadsAlike (mem_state self.old) (mem_state self.new) }
+        ensures at_rest { (q : List ℕ) → IsAtRest ((mem_state self.new).file q) }
+        ensures partly { (q : List ℕ) → IsPartlySynced ((mem_state self.old).file q) ((mem_state self.new).file q) }
+        ensures faults { self.new.faults ≡ self.old.faults }
+    {
+        self.leave(0);
+    }
+
+    fn find_place(&self, name: &[u8]) -> Result<usize, usize>
+        ensures found { IfOk result (λ i. i < length self.now.entries.items × name_at self.now.entries.items i ≡ name.now) }
+        ensures place { IfErr result (λ i. i ≤ length self.now.entries.items × ((j : ℕ) → j < i → slice_cmp nat_cmp (name_at self.now.entries.items j) name.now ≡ Less) × (i < length self.now.entries.items → slice_cmp nat_cmp name.now (name_at self.now.entries.items i) ≡ Less)) }
+        ensures absent { OnErr result ((mem_state self.now).file name.now ≡ no_file) }
+    {
+        place(&self.entries, name)
+    }
+
+    fn find(&self, name: &[u8]) -> Option<&Entry>
+        ensures { MatchOption result ((mem_state self.now).file name.now ≡ no_file) (λ e. (mem_state self.now).file name.now ≡ entry_file e.now) }
+    {
+        match self.find_place(name) {
+            Ok(i) => Some(&self.entries[i]),
+            Err(_) => None,
+        }
+    }
+}
+
+impl Device for MemDevice {
+    ghost use Rattle.node_device.specs.MemState.{mem_state};
+    ghost use Rattle.node_device.specs.MemSound.{mem_sound};
+    ghost use Rattle.node_device.specs.Picks.{IsPicked};
+    ghost use Rattle.node_device.specs.File.{MayLeave, IsAtRest, IsEmpty};
+    ghost use Rattle.node_device.specs.DeviceState.{TellsOn};
+
+    ghost state = { mem_state };
+
+    ghost sound = { mem_sound };
+
+    fn size(&mut self, name: &[u8]) -> Result<u64, DevError> {
+        self.count_call()?;
+        match self.find(name) {
+            Some(entry) => entry.size(),
+            None => Err(DevError::NoFile),
+        }
+    }
+
+    fn read(&mut self, name: &[u8], at: u64, into: &mut [u8]) -> Result<(), DevError> {
+        self.count_call()?;
+        match self.find(name) {
+            Some(entry) => entry.read(at, into),
+            None => Err(DevError::NoFile),
+        }
+    }
+
+    fn write(&mut self, name: &[u8], at: u64, bytes: &[u8]) -> Result<(), DevError> {
+        self.count_call()?;
+        if at > MAX_END || bytes.len() as u64 > MAX_END - at {
+            return Err(DevError::Range);
+        }
+        match self.find_place(name) {
+            Ok(i) => self.write_entry(i, at as usize, bytes),
+            Err(i) => self.write_new(i, name, at as usize, bytes),
+        }
+    }
+
+    fn sync(&mut self) -> Result<(), DevError> {
+        self.count_call()?;
+        self.settle();
+        Ok(())
+    }
+
+    fn remove(&mut self, name: &[u8]) -> Result<(), DevError> {
+        self.count_call()?;
+        match self.find_place(name) {
+            Ok(i) => self.remove_entry(i),
+            Err(_) => Err(DevError::NoFile),
+        }
+    }
+
+    fn names(&mut self) -> Result<Vec<Bytes>, DevError> {
+        self.count_call()?;
+        Ok(list_names(self.alloc, &self.entries)?)
+    }
+
+    fn used(&self) -> u64 {
+        self.used_now()
+    }
+
+    fn capacity(&self) -> u64 {
+        self.capacity
+    }
+
+    fn faults(&self) -> u64 {
+        self.faults
+    }
+
+    fn crash(&mut self, pick: u8)
+        requires { pick ≤ 3 }
+        ensures tells { TellsOn (mem_state self.old) (mem_state self.new) }
+        ensures outcome { (mem_state self.new).tells ≡ true → (q : List ℕ) → MayLeave ((mem_state self.old).file q) ((mem_state self.new).file q).now }
+        ensures at_rest { (q : List ℕ) → IsAtRest ((mem_state self.new).file q) }
+        ensures picked { IsPicked pick (mem_state self.old) (mem_state self.new) }
+        ensures goes_on { (mem_state self.new).tells ≡ true }
+        ensures no_fault { (mem_state self.new).faults ≡ (mem_state self.old).faults }
+    {
+        self.leave(pick);
+    }
+
+    fn wipe(&mut self)
+        ensures tells { TellsOn (mem_state self.old) (mem_state self.new) }
+        ensures names { (mem_state self.new).names ≡ [] }
+        ensures empty { (q : List ℕ) → IsEmpty ((mem_state self.new).file q) }
+        ensures goes_on { (mem_state self.new).tells ≡ true }
+        ensures no_fault { (mem_state self.new).faults ≡ (mem_state self.old).faults }
+    {
+        self.entries.clear();
+        self.used = 0;
+    }
+}
