@@ -1,0 +1,158 @@
+//! PARTNER: each member keeps the whole stream of the member before it.
+#![tactic(auto)]
+
+ghost use Rattle.std.specs.Prelude.{◌≡◌, ℕ, List, ◌<◌, ◌≤◌, ◌↔◌, ◌+◌, ◌%◌, None, slice_index_or, vec_len, length, IfOk, IfSome, IfNone};
+ghost use Rattle.partner_copy.specs.Partner.{share_of, IsLost, AreBothLost, IsFirstBoth, IsRebuilt, AreMembersOf, IsStreamOf};
+
+use scr_base::{Bytes, Copies, Memory};
+use std::alloc::{AllocError, Global};
+use thiserror::Error;
+
+/// What a member of a set holds: its own stream, and what it keeps for others.
+#[derive(Debug, Drop)]
+pub struct Held {
+    pub stream: Bytes,
+    pub share: Bytes,
+}
+
+/// Why no streams are given back.
+#[derive(Clone, Copy, Debug, PartialEq, Eq, Error)]
+pub enum PartnerError {
+    /// This member and the next are lost; no member before it is lost with its next.
+    #[error("member {member} and the next are lost")]
+    Both { member: u8 },
+    /// There is no memory.
+    #[error("out of memory")]
+    Memory,
+}
+
+impl From<AllocError> for PartnerError {
+    ghost use Rattle.partner_copy.specs.declared.PartnerError.TheVariants.{Memory};
+
+    ghost from_gives = { λ _ e. e ≡ Memory };
+
+    fn from(_error: AllocError) -> Self {
+        PartnerError::Memory
+    }
+}
+
+/// The share of member `i` of the members with these streams: a copy of the stream of the member before it.
+pub fn copy_of(alloc: Global, streams: &Vec<Bytes>, i: u8) -> Result<Bytes, Memory>
+    requires { i < vec_len streams.now }
+    ensures { IfOk result (λ share. share ≡ share_of streams.now.items i) }
+{
+    let before = (i as usize + streams.len() - 1) % streams.len();
+    streams[before].copy(alloc)
+}
+
+/// The streams of all members, from what those that are not lost hold. Both where a member and the next are lost.
+pub fn rebuild(alloc: Global, members: &Vec<Option<Held>>) -> Result<Vec<Bytes>, PartnerError>
+    requires { vec_len members.now ≤ 256 }
+    ensures ok { IfOk result (λ answer. IsRebuilt members.now.items answer.items) }
+    ensures originals { IfOk result (λ answer. (streams : List (List ℕ)) → AreMembersOf streams members.now.items → answer.items ≡ streams) }
+    ensures both { (member : ℕ) → (result ≡ Err (PartnerError.Both member)) ↔ IsFirstBoth members.now.items member }
+{
+    if let Some(member) = first_both(members) {
+        return Err(PartnerError::Both { member });
+    }
+    let mut streams = Vec::with_capacity(alloc, members.len())?;
+    for i in 0..members.len() {
+        let stream = stream_of(alloc, members, i).map_err(|_| AllocError)?;
+        streams.push(stream).map_err(AllocError::from)?;
+    }
+    Ok(streams)
+}
+
+/// The first member that is lost together with the next.
+fn first_both(members: &Vec<Option<Held>>) -> Option<u8>
+    requires { vec_len members.now ≤ 256 }
+    ensures found { IfSome result (IsFirstBoth members.now.items) }
+    ensures none { IfNone result ((i : ℕ) → i < vec_len members.now → ¬ AreBothLost members.now.items i) }
+{
+    for i in 0..members.len() {
+        if members[i].is_none() && members[(i + 1) % members.len()].is_none() {
+            return Some(i as u8);
+        }
+    }
+    None
+}
+
+/// The stream of member `i`, from that member or the next.
+fn stream_of(alloc: Global, members: &Vec<Option<Held>>, i: usize) -> Result<Bytes, Memory>
+    requires within { i < vec_len members.now }
+    requires borne { ¬ AreBothLost members.now.items i }
+    ensures { IfOk result (IsStreamOf members.now.items i) }
+{
+    match &members[i] {
+        Some(held) => held.stream.copy(alloc),
+        None => match &members[(i + 1) % members.len()] {
+            Some(next) => next.share.copy(alloc),
+            None => unreachable!(),
+        },
+    }
+}
+
+#[cfg(test)]
+mod tests {
+    use super::*;
+    use std::test::Fail;
+
+    /// The streams of three members: two bytes, one byte, none.
+    fn three(alloc: Global) -> Result<Vec<Bytes>, Fail>
+        ensures { IfOk result (λ streams. vec_len streams ≡ 3) }
+    {
+        let mut streams = Vec::new(alloc);
+        streams.push(Bytes::of(vec![in alloc; 1, 2]?))?;
+        streams.push(Bytes::of(vec![in alloc; 3]?))?;
+        streams.push(Bytes::of(Vec::new(alloc)))?;
+        Ok(streams)
+    }
+
+    /// The members of these streams, but for the lost ones.
+    fn members(
+        alloc: Global,
+        streams: &Vec<Bytes>,
+        lost: &[usize],
+    ) -> Result<Vec<Option<Held>>, Fail>
+        requires { vec_len streams.now ≡ 3 }
+        ensures { IfOk result (λ members. vec_len members ≡ 3) }
+    {
+        let mut members = Vec::new(alloc);
+        for i in 0..3u8 {
+            members.push(if lost.contains(&(i as usize)) {
+                None
+            } else {
+                Some(Held {
+                    stream: streams[i as usize].copy(alloc)?,
+                    share: copy_of(alloc, streams, i)?,
+                })
+            })?;
+        }
+        Ok(members)
+    }
+
+    #[test]
+    fn shares_and_losses(rt: HostRuntime) -> Result<(), Fail> {
+        let alloc = rt.alloc();
+        let streams = three(alloc)?;
+        assert_eq!(rt; copy_of(alloc, &streams, 0)?.list(), [].as_slice());
+        assert_eq!(rt; copy_of(alloc, &streams, 1)?.list(), [1, 2].as_slice());
+        assert_eq!(rt; copy_of(alloc, &streams, 2)?.list(), [3].as_slice());
+        for lost in 0..3usize {
+            let rebuilt = rebuild(alloc, &members(alloc, &streams, &[lost])?)?;
+            assert_eq!(rt; rebuilt.len(), 3);
+            for i in 0..3usize {
+                assert_eq!(rt;
+                    rebuilt[i].list(),
+                    streams[i].list(),
+                    "member {i} with {lost} lost"
+                );
+            }
+        }
+        for (lost, member) in [([0, 1], 0), ([1, 2], 1), ([0, 2], 2)] {
+            let refused = rebuild(alloc, &members(alloc, &streams, &lost)?).err();
+            assert_eq!(rt; refused, Some(PartnerError::Both { member }));
+        }
+        Ok(())
+    }
+}

@@ -1,0 +1,4 @@
+pub mod Polynomial
+pub mod Code
+pub mod Lagrange
+pub mod Laws
