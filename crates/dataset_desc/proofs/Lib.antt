@@ -1,0 +1,4 @@
+pub mod Same
+pub mod InRange
+pub mod Described
+pub mod OneDesc

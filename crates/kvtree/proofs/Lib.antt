@@ -1,0 +1,9 @@
+pub mod Children
+pub mod Loop
+pub mod Fields
+pub mod Laws
+pub mod Puts
+pub mod Only
+pub mod First
+pub mod ByPlace
+pub mod Numbers
