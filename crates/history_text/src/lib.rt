@@ -9,3 +9,6 @@ mod print_steps;
 mod printing;
 
 pub use printing::{print, print_event};
+
+#[cfg(test)]
+mod tests;
