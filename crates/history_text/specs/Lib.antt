@@ -1,0 +1,2 @@
+-- The printer's own words.
+pub mod Pieces

@@ -1,0 +1,14 @@
+//! The text of a history: one line for each event, and one spelling for each event.
+#![tactic(auto)]
+
+mod pieces;
+mod print_answers;
+mod print_commands;
+mod print_runs;
+mod print_steps;
+mod printing;
+
+pub use printing::{print, print_event};
+
+#[cfg(test)]
+mod tests;

@@ -1,0 +1,2 @@
+-- One step more of each list of lines.
+pub mod Steps

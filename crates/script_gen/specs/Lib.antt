@@ -1,0 +1,3 @@
+-- The generated script.
+pub mod Draws
+pub mod Script
