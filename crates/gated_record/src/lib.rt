@@ -7,3 +7,6 @@ mod record;
 
 pub use reading::load;
 pub use record::{Loaded, close_gate, open_gate, write_body};
+
+#[cfg(test)]
+mod tests;
