@@ -1,0 +1,15 @@
+use Rattle.std.proofs.Common.{sym, subst}
+use Rattle.node_device.specs.Rack.{states_of}
+use Rattle.site_core.specs.Follows.{files_in}
+use Rattle.site_core.specs.Holds.{Leads}
+use Rattle.site_core.specs.declared.core_state.Core.{Core}
+use Rattle.site_core.proofs.Saving.{refused_local}
+use Rattle.site_core.proofs.site.Site.refuse_local.Goals as goal
+
+pub returns-clause-run : goal.returns-clause-run
+returns-clause-run g c = λ first f.
+    let s = c.args.self.now in
+    let d0 = states_of g.D.Device.state s.bay in
+    let files = files_in d0 in
+    let l = refused_local first s.core s.program.items files s.history.events c.push.new.self.events c.args.step c.requires.stage c.requires.free c.requires.local c.requires.bars c.requires.next c.in_ok-push.ensures.events f.leads in
+    record { tells = f.tells; leads = subst (λ (x : Core). Leads first x s.program.items files c.push.new.self.events) (sym c.step.ensures) l }
