@@ -4,3 +4,7 @@ mod Visible
 mod Tails
 mod Numbers
 mod Lengths
+mod Causes
+mod Begun
+mod TwoRuns
+mod Ended

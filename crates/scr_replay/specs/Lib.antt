@@ -5,3 +5,4 @@ pub mod Forms
 pub mod Programs
 pub mod Fields
 pub mod Statuses
+pub mod Runs

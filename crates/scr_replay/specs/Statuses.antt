@@ -6,6 +6,8 @@ use Rattle.scr_replay.specs.Outputs.{JoinsFront}
 use Rattle.scr_replay.specs.Words.{IsRun}
 use Rattle.scr_replay.specs.Forms.{Spells, IsNoForm}
 use Rattle.scr_replay.specs.Inputs.{IsSpent}
+use Rattle.node_device.specs.DeviceState.{DeviceState}
+use Rattle.scr_replay.specs.Runs.{IsReplayed}
 use Rattle.scr_replay.specs.declared.script.Form.{Form}
 use Rattle.scr_replay.specs.declared.replay.Unread.{Unread}
 use Rattle.scr_replay.specs.declared.replay.Unread.TheVariants.{Failed}
@@ -83,3 +85,12 @@ Prints held held' faults faults' line status result =
 abbrev pub UnreadCause : {T : Type 0} → ℕ → ℕ → Result T Unread → Type 0
 UnreadCause before now (Err Failed) = Rose before now
 UnreadCause before now _ = now ≡ before
+
+-- at status 0 the source was read to its end, and its script was replayed
+pub record IsDone (before after : Outside) (old new : ℕ → DeviceState) : Type 0 where
+  pub form : Form
+  pub read : IfSome before.left (λ bytes. Spells bytes form)
+  pub spent : IsSpent after.left
+  pub quiet_source : after.source_faults ≡ before.source_faults
+  pub quiet_sink : after.sink_faults ≡ before.sink_faults
+  pub replayed : IsReplayed form old new before.held after.held

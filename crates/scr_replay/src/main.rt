@@ -1,13 +1,34 @@
-//! Replays the script of a job of checkpoints, and prints its history.
+//! Replays the script of a job of checkpoints over devices in memory, and prints its history.
 #![tactic(auto)]
 
+mod devices;
 mod fields;
 mod input;
 mod output;
+mod playing;
 mod replay;
 mod script;
+mod telling;
 #[cfg(test)]
 mod tests;
 mod words;
 
-fn main() {}
+use devices::memory_bay;
+use replay::replay;
+use scr_base::{StdSink, StdSource, TickClock};
+use std::io;
+use std::process::ExitCode;
+use words::words_of;
+
+fn main(rt: HostRuntime) -> io::Result<ExitCode> {
+    let alloc = rt.alloc();
+    let words = words_of(&rt)?;
+    let Ok(bay) = memory_bay(alloc) else {
+        return Ok(ExitCode::from(5));
+    };
+    let mut source = StdSource::new(&rt);
+    let mut sink = StdSink::new(&rt);
+    let mut clock = TickClock::new();
+    let ran = replay(alloc, &words, &mut source, &mut sink, bay, &mut clock);
+    Ok(ExitCode::from(ran.status))
+}

@@ -1,8 +1,9 @@
 use crate::input::{Input, LONGEST_TEXT, ReadError, read_input};
 use crate::output::put_all;
-use crate::replay::script_or_status;
+use crate::replay::replay;
 use crate::script::read_form;
-use scr_base::{MemSink, MemSource, Memory, Sink, SinkFailed, Source, Step};
+use node_device::{Bay, MemDevice};
+use scr_base::{MemSink, MemSource, Memory, Sink, SinkFailed, Source, Step, TickClock};
 use std::alloc::Global;
 use std::test::Fail;
 
@@ -95,29 +96,90 @@ fn puts_a_front_before_a_fault(rt: HostRuntime) -> Result<(), Fail> {
     Ok(())
 }
 
+const USAGE: &str = "usage: scr_replay run | gen SEED | script SEED\n";
+
+const REFUSAL: &str = "refused line 0 reason 15\n";
+
+fn bay(alloc: Global, capacity: u64) -> Result<Bay<MemDevice>, Memory> {
+    let mut nodes = Vec::with_capacity(alloc, 32)?;
+    for place in 0..32u8 {
+        let _ = place;
+        nodes.push(MemDevice::new(alloc, capacity, Vec::new(alloc))?)?;
+    }
+    let prefix = MemDevice::new(alloc, 1000, Vec::new(alloc))?;
+    Ok(Bay::new(nodes, prefix))
+}
+
+// The status and what the sink holds, in a fresh bay.
+fn replayed(
+    alloc: Global,
+    word: &str,
+    mut source: MemSource,
+    mut sink: MemSink,
+    capacity: u64,
+) -> Result<(u8, MemSink), Fail> {
+    let words = vec![in alloc; String::from_str(alloc, word)?]?;
+    let Ok(bay) = bay(alloc, capacity) else {
+        return Ok((5, sink));
+    };
+    let mut clock = TickClock::new();
+    let ran = replay(alloc, &words, &mut source, &mut sink, bay, &mut clock);
+    Ok((ran.status, sink))
+}
+
 #[test]
 fn ends_with_its_status(rt: HostRuntime) -> Result<(), Fail> {
     let alloc = rt.alloc();
-    let usage = "usage: scr_replay run | gen SEED | script SEED\n";
     let table = [
-        ("run", SCRIPT, 0, 0, 0, ""),
-        ("go", SCRIPT, 0, 0, 1, usage),
-        ("-run", SCRIPT, 0, 0, 1, usage),
-        ("run", "", 0, 0, 2, "refused line 0 reason 15\n"),
+        ("go", SCRIPT, 0, 0, 1, USAGE),
+        ("-run", SCRIPT, 0, 0, 1, USAGE),
+        ("run", "", 0, 0, 2, REFUSAL),
         ("run", SCRIPT, 1, 0, 3, ""),
-        ("go", SCRIPT, 1, 0, 1, usage),
+        ("go", SCRIPT, 1, 0, 1, USAGE),
         ("run", "", 0, 1, 4, ""),
         ("go", SCRIPT, 0, 1, 4, ""),
     ];
     for (word, text, source_fault, sink_fault, status, printed) in table {
-        let words = vec![in alloc; String::from_str(alloc, word)?]?;
-        let mut source = source(alloc, text, &[source_fault])?;
-        let mut sink = MemSink::new(alloc, [sink_fault].to_vec(alloc)?);
-        match script_or_status(alloc, &words, &mut source, &mut sink) {
-            Ok(_) => assert_eq!(rt; status, 0),
-            Err(ended) => assert_eq!(rt; ended, status),
-        }
+        let source = source(alloc, text, &[source_fault])?;
+        let sink = MemSink::new(alloc, [sink_fault].to_vec(alloc)?);
+        let (ended, sink) = replayed(alloc, word, source, sink, 1000)?;
+        assert_eq!(rt; ended, status);
         assert_eq!(rt; sink.bytes(), printed.as_bytes());
+    }
+    Ok(())
+}
+
+#[test]
+fn reads_back_what_was_written(rt: HostRuntime) -> Result<(), Fail> {
+    let alloc = rt.alloc();
+    let table = [
+        ("text abc", "read f 0 3", "read f 0 3 = bytes 616263\n"),
+        ("text xyz", "read f 1 1", "read f 1 1 = bytes 79\n"),
+        ("text abc", "read f 3 9", "read f 3 9 = bytes -\n"),
+    ];
+    for (text, read, want) in table {
+        let script = changed(alloc, "text abc", text)?.replace(alloc, "read f 0 3", read)?;
+        let source = source(alloc, script.as_str(), &[])?;
+        let sink = MemSink::new(alloc, Vec::new(alloc));
+        let (status, sink) = replayed(alloc, "run", source, sink, 1000)?;
+        assert_eq!(rt; status, 0, "at {read}");
+        let Ok(printed) = str::from_utf8(sink.bytes()) else {
+            return Ok(assert!(rt; false, "no text"));
+        };
+        assert!(rt; printed.contains(want), "at {read}");
+        assert!(rt; printed.ends_with("call 0 5 end\nstop ended\n"));
+    }
+    Ok(())
+}
+
+#[test]
+fn stops_at_a_full_device_and_at_a_failing_sink(rt: HostRuntime) -> Result<(), Fail> {
+    let alloc = rt.alloc();
+    for (capacity, sink_fault, status) in [(2, 0, 7), (1000, 2, 4)] {
+        let source = source(alloc, SCRIPT, &[])?;
+        let sink = MemSink::new(alloc, [sink_fault].to_vec(alloc)?);
+        let (ended, _) = replayed(alloc, "run", source, sink, capacity)?;
+        assert_eq!(rt; ended, status);
     }
     Ok(())
 }
