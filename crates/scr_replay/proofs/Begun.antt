@@ -1,5 +1,5 @@
 -- The site of the form, whatever proves its ranges.
-use Rattle.std.proofs.Common.{◌≡◌, ◌⊎◌, ℕ, Bool, true, List, [], ◌∷◌, refl, ap}
+use Rattle.std.proofs.Common.{◌≡◌, ◌⊎◌, ℕ, true, List, [], ◌∷◌, refl, ap}
 use mathlib.Core.Bool.{Bool-set}
 use Rattle.std.specs.Bool.{IsTrue}
 use Rattle.scr_base.specs.Limits.{is_site, is_config}

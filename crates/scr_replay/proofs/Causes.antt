@@ -1,11 +1,11 @@
 -- Causes over several turns.
-use Rattle.std.proofs.Common.{◌≡◌, ℕ, ◌≤◌, ◌+◌, ◌-◌, ◌^◌, min, Result, Ok, Err, refl, sym, ap, ◌∙◌, subst}
+use Rattle.std.proofs.Common.{ℕ, Result, Ok, Err, refl, ◌∙◌, subst}
 use Rattle.scr_base.specs.Causes.{Rose}
 use Rattle.node_device.specs.DeviceState.{DeviceState}
-use Rattle.site_core.specs.Follows.{SiteCause, IsFault, IsCalm}
+use Rattle.site_core.specs.Follows.{SiteCause, IsCalm}
 use Rattle.site_core.specs.declared.error.SiteError.{SiteError}
 use Rattle.site_core.specs.declared.error.SiteError.TheVariants.{Memory, Fault, Full}
-use Rattle.scr_replay.specs.Runs.{RunCause, WouldPass, HasFault, HasFull}
+use Rattle.scr_replay.specs.Runs.{RunCause, HasFault, HasFull}
 
 -- the cause of one turn
 pub one_turn : {T : Type 0} (old new : ℕ → DeviceState) (r : Result T SiteError) → SiteCause old new r → RunCause old new r

@@ -1,5 +1,5 @@
 -- What a run and its text come to.
-use Rattle.std.specs.Prelude.{ℕ, ◌≡◌, ◌≤◌, ◌<◌, List, Option, Result, Ok, Err}
+use Rattle.std.specs.Prelude.{ℕ, ◌≡◌, ◌≤◌, ◌<◌, List, Option, Result, Err}
 use Rattle.scr_base.specs.Causes.{Rose}
 use Rattle.scr_base.specs.Streams.{Joins}
 use Rattle.scr_base.specs.declared.content.Step.{Step}
