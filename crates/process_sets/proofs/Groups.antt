@@ -6,33 +6,13 @@ use Rattle.std.proofs.Math.Bool.{and-false}
 use Rattle.std.proofs.lemmas.Bool.{cases_Bool, cases_lt, cases_eq, eq-eqb, ne_eqb}
 use Rattle.std.proofs.lemmas.Nat.{mod-mul-add, mod_below, le-div}
 use Rattle.std.proofs.lemmas.List.{take_all, append-nil, length-append, get_or-append-add, get_or_append_left}
-use Rattle.std.proofs.lemmas.List.Elements.{filter_more, All-filter, All-from_get_or}
+use Rattle.std.proofs.lemmas.List.Elements.{All-filter, All-from_get_or}
 use Rattle.std.proofs.lemmas.List.Folds.{list_all_at, list_any_at, list_any_none}
-use Rattle.std.proofs.lemmas.List.FromFn.{length-range_with_len, get_or-range_with_len}
+use Rattle.std.proofs.lemmas.List.FromFn.{length-range_with_len}
 use Rattle.scr_base.specs.declared.shape.Scheme.TheVariants.{Partner}
 use Rattle.scr_base.specs.Sets.{numbers_below, is_among, lost_members, bears_members}
+use Rattle.scr_base.proofs.Chosen.{number_at, chosen_more}
 use Rattle.process_sets.specs.Group.{members_of, is_lost, spares_neighbours}
-
-number_at : (n k : ℕ) → k < n → get_or (numbers_below n) k 0 ≡ k
-number_at n k h = let e = get_or-range_with_len 0 n k 0 h in omega (arith, e)
-
-chosen_more : (p : ℕ → Bool) (n k : ℕ) → k < n
-    → filter p (take (k + 1) (numbers_below n)) ≡ filter p (take k (numbers_below n)) ++ cond (p k) (k ∷ []) []
-chosen_more p n k h =
-    let low : k < length (numbers_below n) = omega (arith, length-range_with_len 0 n) in
-    filter_more p (numbers_below n) k 0 low
-    ∙ ap (λ t. filter p (take k (numbers_below n)) ++ cond (p t) (t ∷ []) []) (number_at n k h)
-
-pub chosen_more_in : (p : ℕ → Bool) (n k : ℕ) → k < n → p k ≡ true
-    → filter p (take (k + 1) (numbers_below n)) ≡ filter p (take k (numbers_below n)) ++ k ∷ []
-chosen_more_in p n k h e = chosen_more p n k h ∙ ap (λ b. filter p (take k (numbers_below n)) ++ cond b (k ∷ []) []) e
-
-pub chosen_more_out : (p : ℕ → Bool) (n k : ℕ) → k < n → p k ≡ false → filter p (take (k + 1) (numbers_below n)) ≡ filter p (take k (numbers_below n))
-chosen_more_out p n k h e =
-    chosen_more p n k h ∙ ap (λ b. filter p (take k (numbers_below n)) ++ cond b (k ∷ []) []) e ∙ append-nil (filter p (take k (numbers_below n)))
-
-pub chosen_all : (p : ℕ → Bool) (n k : ℕ) → n ≤ k → filter p (take k (numbers_below n)) ≡ filter p (numbers_below n)
-chosen_all p n k h = ap (filter p) (take_all k (numbers_below n) (omega (arith, length-range_with_len 0 n)))
 
 -- the test of a group
 abbrev pub in_group : ℕ → ℕ → ℕ → Bool

@@ -9,7 +9,7 @@ use Rattle.poly_code.specs.Polynomial.{value_at, IsBytes, weighted_sum}
 use Rattle.poly_code.specs.Code.{IsWeights}
 use Rattle.poly_code.proofs.Lagrange.{AreApart, interpolated, IsBytes-interpolated, length-interpolated_all, value_at-interpolated_point, weighted_sum_same}
 use Rattle.reed_solomon.specs.Stripe.{known_places, is_known, segment_of, AreOfOneLength, IsStripe, IsCompleted, IsSegment, ArePlaces}
-use Rattle.reed_solomon.proofs.Places.{chosen_passes, chosen_below, chosen_ascends}
+use Rattle.scr_base.proofs.Chosen.{chosen_passes, chosen_below, chosen_ascends}
 
 -- one of the first n is the target, or none
 find : (xs : List ℕ) (target n : ℕ) → ((j : ℕ) × (j < n) × (slice_index xs j ≡ target)) ⊎ ((j : ℕ) → j < n → slice_index xs j ≢ target)

@@ -1,7 +1,7 @@
 use Rattle.std.proofs.Common.{length, sym, ap, ◌∙◌, arith}
 use Rattle.std.proofs.lemmas.Grind.{common_steps}
 use Rattle.process_sets.specs.Group.{members_of, is_lost}
-use Rattle.process_sets.proofs.Groups.{chosen_more_in, chosen_more_out, chosen_all}
+use Rattle.scr_base.proofs.Chosen.{chosen_more_in, chosen_more_out, chosen_all}
 use Rattle.process_sets.proofs.lost_count.Goals as goal
 use Rattle.process_sets.proofs.lost_count.Goals.{then-stands_lost, else-stands_lost}
 

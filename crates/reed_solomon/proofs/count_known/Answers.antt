@@ -3,7 +3,7 @@ use Rattle.std.specs.Option.{is_some}
 use Rattle.std.proofs.lemmas.Grind.{common_steps}
 use Rattle.std.proofs.lemmas.List.{get_or_read_under}
 use Rattle.reed_solomon.specs.Stripe.{is_known}
-use Rattle.reed_solomon.proofs.Places.{chosen_more_in, chosen_more_out, chosen_all}
+use Rattle.scr_base.proofs.Chosen.{chosen_more_in, chosen_more_out, chosen_all}
 use Rattle.reed_solomon.proofs.count_known.Goals as goal
 use Rattle.reed_solomon.proofs.count_known.Goals.{then-is_some, else-is_some}
 
