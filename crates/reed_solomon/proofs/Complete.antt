@@ -8,7 +8,7 @@ use Rattle.lane_kernels.specs.Columns.{column_at}
 use Rattle.poly_code.specs.Polynomial.{value_at, IsBytes, weighted_sum}
 use Rattle.poly_code.specs.Code.{IsWeights}
 use Rattle.poly_code.proofs.Lagrange.{AreApart, interpolated, IsBytes-interpolated, length-interpolated_all, value_at-interpolated_point, weighted_sum_same}
-use Rattle.reed_solomon.specs.Stripe.{known_places, is_known, segment_of, AreOfOneLength, IsStripe, IsCompleted, IsSegment, ArePlaces}
+use Rattle.reed_solomon.specs.Stripe.{known_places, is_known, segment_of, AreOfOneLength, IsStripe, IsCompleted, IsRebuilt, IsSegment, ArePlaces}
 use Rattle.scr_base.proofs.Chosen.{chosen_passes, chosen_below, chosen_ascends}
 
 -- one of the first n is the target, or none
@@ -141,6 +141,40 @@ completed known m places stripe first size at few count each =
       kept = λ j h.
           ap (λ p. slice_index_or stripe p []) (place_at j h) ∙ completed_kept known places stripe j at (omega (arith, size)) each
           ∙ ap (segment_of known) (sym (place_at j h));
+    }
+
+-- one segment is on each polynomial through the known bytes
+through : (known : List (Option (List ℕ))) (places segment : List ℕ) (target b : ℕ) (coefs : List ℕ) → IsSegment known places target segment → b < length segment
+    → IsBytes coefs → length coefs ≤ length places → ((j : ℕ) → j < length places → value_at coefs (slice_index places j) ≡ known_byte known places b j)
+    → slice_index segment b ≡ value_at coefs target
+through known places segment target b coefs s h small count agree =
+    elim (find places target (length places)) [
+      | inl found ↦
+          let own = s.copied found.0 found.1 found.2 in
+          ap (λ xs. slice_index xs b) own.0
+          ∙ ap (λ p. slice_index (segment_of known p) b) (sym found.2)
+          ∙ sym (agree found.0 found.1)
+          ∙ ap (value_at coefs) found.2
+      | inr none ↦
+          let w = s.weighed none in
+          w.sum b h
+          ∙ weighted_sum_same (slice_index w.weights) (slice_index w.weights) (known_byte known places b) (λ k. value_at coefs (slice_index places k)) (length places)
+          (λ j l. refl) (λ j l. sym (agree j l))
+          ∙ sym (w.right.value coefs small count)
+    ]
+
+pub rebuilt : (known : List (Option (List ℕ))) (m : ℕ) (places : List ℕ) (target : ℕ) (segment : List ℕ) → places ≡ take m (known_places known) → length places ≡ m
+    → ArePlaces known places → IsSegment known places target segment → IsRebuilt m known target segment
+rebuilt known m places target segment first size at s =
+    let place_at : (j : ℕ) → j < m → slice_index (known_places known) j ≡ slice_index places j = λ j h.
+    sym (get_or-take m (known_places known) j 0 h) ∙ ap (λ xs. slice_index xs j) (sym first) in
+    record {
+      count = λ j h. s.count ∙ sym (at.lengths j (omega (arith, size))) ∙ ap (λ p. length (segment_of known p)) (sym (place_at j h));
+      value = λ b h coefs small count agree.
+          through known places segment target b coefs s h small (omega (arith, size, count))
+          (λ j l.
+          let low : j < m = omega (arith, size) in
+          ap (value_at coefs) (sym (place_at j low)) ∙ agree j low ∙ ap (λ p. slice_index (segment_of known p) b) (place_at j low));
     }
 
 both_long : (len : ℕ) (a b : Option (List ℕ)) → IfSome a (λ s. length s ≡ len) → IfSome b (λ s. length s ≡ len)

@@ -2,7 +2,7 @@
 use Rattle.std.specs.Prelude.{◌≡◌, ◌≢◌, ℕ, ◌<◌, Bool, List, [], length, Option, None, IsSome, IfSome, is_some, unwrap_or, filter, slice_index, slice_index_or}
 use Rattle.scr_base.specs.Sets.{numbers_below}
 use Rattle.lane_kernels.specs.Columns.{column_at}
-use Rattle.poly_code.specs.Polynomial.{IsBytes, AreDistinct, weighted_sum}
+use Rattle.poly_code.specs.Polynomial.{value_at, IsBytes, AreDistinct, weighted_sum}
 use Rattle.poly_code.specs.Code.{IsColumn, IsWeights}
 
 -- a segment is known at this place
@@ -36,6 +36,13 @@ pub record IsCompleted (degree : ℕ) (known : List (Option (List ℕ))) (stripe
   pub count : length stripe ≡ length known
   pub whole : (j : ℕ) → j < degree → IsStripe degree (length (segment_of known (slice_index (known_places known) j))) stripe
   pub kept : (j : ℕ) → j < degree → slice_index_or stripe (slice_index (known_places known) j) [] ≡ segment_of known (slice_index (known_places known) j)
+
+-- the bytes are the values at the target of the polynomials that go through the bytes of the first `degree` known segments
+pub record IsRebuilt (degree : ℕ) (known : List (Option (List ℕ))) (target : ℕ) (segment : List ℕ) : Type 0 where
+  pub count : (j : ℕ) → j < degree → length segment ≡ length (segment_of known (slice_index (known_places known) j))
+  pub value : (b : ℕ) → b < length segment → (coefs : List ℕ) → IsBytes coefs → length coefs ≡ degree
+      → ((j : ℕ) → j < degree → value_at coefs (slice_index (known_places known) j) ≡ slice_index (segment_of known (slice_index (known_places known) j)) b)
+      → slice_index segment b ≡ value_at coefs target
 
 -- the sum of the segments at these places, each times its weight for the target
 pub record IsWeighed (known : List (Option (List ℕ))) (places : List ℕ) (target : ℕ) (segment : List ℕ) : Type 0 where

@@ -4,7 +4,7 @@
 ghost use Rattle.std.specs.Prelude.{◌≡◌, ◌≢◌, ◌↔◌, ℕ, ◌-◌, ◌<◌, ◌≤◌, None, length, take, slice_index, slice_index_or, vec_len, IsSome, IfOk};
 ghost use Rattle.std.specs.Bool.{OnTrue, OnFalse};
 ghost use Rattle.poly_code.specs.Polynomial.{IsBytes, weighted_sum};
-ghost use Rattle.reed_solomon.specs.Stripe.{known_places, segment_of, AreOfOneLength, IsShort, IsCompleted, ArePlaces, IsSegment};
+ghost use Rattle.reed_solomon.specs.Stripe.{known_places, segment_of, AreOfOneLength, IsShort, IsCompleted, IsRebuilt, ArePlaces, IsSegment};
 
 use lane_kernels::mul_add_into;
 use poly_code::{PolyError, weights};
@@ -76,6 +76,29 @@ pub fn encode_stripe(
     ensures too_few { (count : ℕ) → (result ≡ Err (RsError.TooFew count)) ↔ IsShort (n - k) parts.now.items count }
 {
     rebuild_stripe(alloc, n, k, parts)
+}
+
+/// The segment at `target` alone, of the stripe that has the first n - k known ones: its bytes are the values at the
+/// target of the polynomials that go through the known bytes. TooFew where fewer than n - k are known. `known` has an
+/// entry for each place; k is at least 1.
+pub fn rebuild_segment(
+    alloc: Global,
+    n: u8,
+    k: u8,
+    known: &Vec<Option<Bytes>>,
+    target: u8,
+) -> Result<Bytes, RsError>
+    requires count { vec_len known.now ≡ n }
+    requires one_length { AreOfOneLength known.now.items }
+    requires parity { 1 ≤ k }
+    requires data { k < n }
+    requires within { target < n }
+    ensures ok { IfOk result (IsRebuilt (n - k) known.now.items target) }
+    ensures too_few { (count : ℕ) → (result ≡ Err (RsError.TooFew count)) ↔ IsShort (n - k) known.now.items count }
+{
+    let first = first_places(alloc, n - k, known)?;
+    let segment = segment_for(alloc, known, first.as_slice(), target)?;
+    Ok(segment)
 }
 
 /// The places of the first known segments, as many as are needed.
@@ -228,6 +251,8 @@ mod tests {
                 let known = known_of(alloc, &column, &[i, j])?;
                 let stripe = rebuild_stripe(alloc, 4, 2, &known)?;
                 assert_eq!(rt; stripe.len(), 4);
+                let segment = rebuild_segment(alloc, 4, 2, &known, i)?;
+                assert_eq!(rt; segment.list(), [column[i as usize]; 3].as_slice());
                 for place in 0..4usize {
                     assert_eq!(rt;
                         stripe[place].list(),
