@@ -25,7 +25,7 @@ before_next n i h =
     ]
 
 -- the stream that a member or the next holds is the member's own
-stream_from : (streams : List (List ℕ)) (n i : ℕ) (own next : Option Held) (stream : List ℕ) → n ≡ length streams → i < n
+pub stream_from : (streams : List (List ℕ)) (n i : ℕ) (own next : Option Held) (stream : List ℕ) → n ≡ length streams → i < n
     → IfSome own (IsMemberOf streams i) → IfSome next (IsMemberOf streams ((i + 1) % n)) → ¬ (IsNone own × IsNone next)
     → MatchOption own (IfSome next (λ held. stream ≡ held.share)) (λ held. stream ≡ held.stream) → stream ≡ slice_index_or streams i []
 stream_from streams n i (Some held) next stream count h p q borne e = e ∙ p.0

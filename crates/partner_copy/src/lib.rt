@@ -57,7 +57,7 @@ pub fn rebuild(alloc: Global, members: &Vec<Option<Held>>) -> Result<Vec<Bytes>,
     }
     let mut streams = Vec::with_capacity(alloc, members.len())?;
     for i in 0..members.len() {
-        let stream = stream_of(alloc, members, i).map_err(|_| AllocError)?;
+        let stream = copied(alloc, members, i).map_err(|_| AllocError)?;
         streams.push(stream).map_err(AllocError::from)?;
     }
     Ok(streams)
@@ -77,19 +77,28 @@ fn first_both(members: &Vec<Option<Held>>) -> Option<u8>
     None
 }
 
-/// The stream of member `i`, from that member or the next.
-fn stream_of(alloc: Global, members: &Vec<Option<Held>>, i: usize) -> Result<Bytes, Memory>
+/// The stream of member `i`, as that member or else the next holds it. The two aren't both lost.
+pub fn stream_of(members: &Vec<Option<Held>>, i: usize) -> &Bytes
+    requires within { i < vec_len members.now }
+    requires borne { ¬ AreBothLost members.now.items i }
+    ensures { IsStreamOf members.now.items i result.now }
+{
+    match &members[i] {
+        Some(held) => &held.stream,
+        None => match &members[(i + 1) % members.len()] {
+            Some(next) => &next.share,
+            None => unreachable!(),
+        },
+    }
+}
+
+/// A copy of the stream of member `i`.
+fn copied(alloc: Global, members: &Vec<Option<Held>>, i: usize) -> Result<Bytes, Memory>
     requires within { i < vec_len members.now }
     requires borne { ¬ AreBothLost members.now.items i }
     ensures { IfOk result (IsStreamOf members.now.items i) }
 {
-    match &members[i] {
-        Some(held) => held.stream.copy(alloc),
-        None => match &members[(i + 1) % members.len()] {
-            Some(next) => next.share.copy(alloc),
-            None => unreachable!(),
-        },
-    }
+    stream_of(members, i).copy(alloc)
 }
 
 #[cfg(test)]

@@ -162,7 +162,7 @@ any-filter p q (x ∷ xs) =
       | false ↦ any-filter p q xs
     ]
 
-among_chosen : (p : ℕ → Bool) (n i : ℕ) → i < n → is_among i (filter p (numbers_below n)) ≡ p i
+pub among_chosen : (p : ℕ → Bool) (n i : ℕ) → i < n → is_among i (filter p (numbers_below n)) ≡ p i
 among_chosen p n i h =
     any-filter p (λ m. m == i) (numbers_below n)
     ∙ elim (cases_Bool (p i)) [

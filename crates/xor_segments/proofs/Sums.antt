@@ -13,7 +13,7 @@ xor_of-take_suc [] i h = absurd (omega arith)
 xor_of-take_suc (b ∷ bs) zero h = add_comm b 0
 xor_of-take_suc (b ∷ bs) (suc i) h = ap (add b) (xor_of-take_suc bs i (omega arith)) ∙ sym (add_assoc b (xor_of (take i bs)) (get_or bs i 0))
 
-xor_of-set : (bs : List ℕ) (i v : ℕ) → i < length bs → xor_of (set bs i v) ≡ add v (xor_of (set bs i 0))
+pub xor_of-set : (bs : List ℕ) (i v : ℕ) → i < length bs → xor_of (set bs i v) ≡ add v (xor_of (set bs i 0))
 unfolding xor_of
 xor_of-set [] i v h = absurd (omega arith)
 xor_of-set (b ∷ bs) zero v h = ap (add v) (sym (zero_add (xor_of bs)))

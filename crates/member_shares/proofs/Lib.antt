@@ -1,0 +1,4 @@
+pub mod Ranks
+pub mod Places
+pub mod Columns
+pub mod Filled

@@ -1,0 +1,6 @@
+pub mod PlaceLemmas
+pub mod CutLemmas
+pub mod LongestLemmas
+pub mod KnownLemmas
+pub mod Joined
+pub mod Segments
