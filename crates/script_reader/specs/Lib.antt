@@ -8,3 +8,4 @@ pub mod Routes
 pub mod Run
 pub mod Progress
 pub mod Readers
+pub mod Grammar

@@ -4,9 +4,10 @@
 mod form;
 mod line;
 mod number;
+mod reader;
+mod reading;
 mod reason;
 mod routes;
-mod reader;
 mod run;
 mod script;
 mod settings;
@@ -14,3 +15,6 @@ mod stage;
 mod step_form;
 mod values;
 mod words;
+
+pub use reading::{ScriptError, read_script};
+pub use script::{Item, RunItem, Script, TurnLine};

@@ -54,7 +54,7 @@ fn is_skipped(line: &[u8]) -> bool
     }
 }
 
-fn is_before(stage: Stage) -> bool
+pub(crate) fn is_before(stage: Stage) -> bool
     ensures { result ≡ is_before stage }
 {
     matches!(stage, Stage::Before)
@@ -78,7 +78,7 @@ fn is_ranks(stage: Stage) -> bool
     matches!(stage, Stage::Ranks)
 }
 
-fn is_open(stage: Stage) -> bool
+pub(crate) fn is_open(stage: Stage) -> bool
     ensures { result ≡ is_open stage }
 {
     matches!(stage, Stage::Ranks | Stage::Turns)
