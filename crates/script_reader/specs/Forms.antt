@@ -57,9 +57,9 @@ unfoldable pub validity_form : List (List ℕ) → Option StepForm
 validity_form words =
     option_and_then
     (λ valid.
-        if has words 2 (codes "complete") then Some (step.Complete valid)
-        else if has words 2 (codes "restarted") then Some (step.Restarted valid)
-        else None)
+    if has words 2 (codes "complete") then Some (step.Complete valid)
+    else if has words 2 (codes "restarted") then Some (step.Restarted valid)
+    else None)
     (valid_word words 3)
 
 -- also read W AT LEN, and route W

@@ -79,7 +79,11 @@ pub enum BodyForm {
 fn sized(words: &[&[u8]], count: usize, form: BodyForm) -> Option<BodyForm>
     ensures { result ≡ sized (texts words.now) count form }
 {
-    if words.len() == count { Some(form) } else { None }
+    if words.len() == count {
+        Some(form)
+    } else {
+        None
+    }
 }
 
 #[tactic(auto, unfolding(crate::specs::Forms::scheme_word))]
@@ -87,13 +91,21 @@ fn scheme_word(words: &[&[u8]]) -> Option<Key>
     ensures { result ≡ scheme_word (texts words.now) }
 {
     if has(words, 2, b"single") {
-        Some(Key::Scheme { word: SchemeWord::Single })
+        Some(Key::Scheme {
+            word: SchemeWord::Single,
+        })
     } else if has(words, 2, b"partner") {
-        Some(Key::Scheme { word: SchemeWord::Partner })
+        Some(Key::Scheme {
+            word: SchemeWord::Partner,
+        })
     } else if has(words, 2, b"xor") {
-        Some(Key::Scheme { word: SchemeWord::Xor })
+        Some(Key::Scheme {
+            word: SchemeWord::Xor,
+        })
     } else if has(words, 2, b"rs") {
-        Some(Key::Scheme { word: SchemeWord::Rs })
+        Some(Key::Scheme {
+            word: SchemeWord::Rs,
+        })
     } else {
         None
     }
@@ -127,7 +139,9 @@ fn set_form(words: &[&[u8]]) -> Option<Form>
     if words.len() != 3 {
         return None;
     }
-    Some(Form::Set { key: key_of(words)? })
+    Some(Form::Set {
+        key: key_of(words)?,
+    })
 }
 
 #[tactic(auto, unfolding(crate::specs::Forms::rank_form))]
@@ -146,13 +160,37 @@ fn turn_form(words: &[&[u8]]) -> Option<BodyForm>
     if has(words, 1, b"rank") {
         sized(words, 4, BodyForm::TurnRank)
     } else if has(words, 1, b"recoverer") {
-        sized(words, 3, BodyForm::Turn { actor: Actor::Recoverer })
+        sized(
+            words,
+            3,
+            BodyForm::Turn {
+                actor: Actor::Recoverer,
+            },
+        )
     } else if has(words, 1, b"encoder") {
-        sized(words, 3, BodyForm::Turn { actor: Actor::Encoder })
+        sized(
+            words,
+            3,
+            BodyForm::Turn {
+                actor: Actor::Encoder,
+            },
+        )
     } else if has(words, 1, b"flusher") {
-        sized(words, 3, BodyForm::Turn { actor: Actor::Flusher })
+        sized(
+            words,
+            3,
+            BodyForm::Turn {
+                actor: Actor::Flusher,
+            },
+        )
     } else if has(words, 1, b"evictor") {
-        sized(words, 3, BodyForm::Turn { actor: Actor::Evictor })
+        sized(
+            words,
+            3,
+            BodyForm::Turn {
+                actor: Actor::Evictor,
+            },
+        )
     } else {
         None
     }
@@ -171,11 +209,25 @@ fn stop_form(line: &[u8], words: &[&[u8]]) -> Option<BodyForm>
     ensures { result ≡ stop_form line.now (texts words.now) }
 {
     if has(words, 2, b"end") {
-        sized(words, 3, BodyForm::Stop { place: PlaceForm::End })
+        sized(
+            words,
+            3,
+            BodyForm::Stop {
+                place: PlaceForm::End,
+            },
+        )
     } else if has(words, 2, b"after") {
-        sized(words, 4, BodyForm::Stop { place: PlaceForm::After })
+        sized(
+            words,
+            4,
+            BodyForm::Stop {
+                place: PlaceForm::After,
+            },
+        )
     } else if has(words, 2, b"on") && words.len() >= 4 && stop_text(line).len() <= 200 {
-        Some(BodyForm::Stop { place: PlaceForm::On })
+        Some(BodyForm::Stop {
+            place: PlaceForm::On,
+        })
     } else {
         None
     }
@@ -279,7 +331,11 @@ pub(crate) fn form_of(line: &[u8], words: &[&[u8]]) -> Option<Form>
     if has_empty(words) {
         None
     } else if has(words, 0, b"site") {
-        if words.len() == 4 { Some(Form::Site) } else { None }
+        if words.len() == 4 {
+            Some(Form::Site)
+        } else {
+            None
+        }
     } else if has(words, 0, b"set") {
         set_form(words)
     } else {

@@ -179,7 +179,11 @@ impl Reader {
         ensures { result ≡ order_fault (progress_of self.now) form }
     {
         if is_before(self.stage) {
-            if is_site_form(form) { None } else { Some(Reason::NoSite) }
+            if is_site_form(form) {
+                None
+            } else {
+                Some(Reason::NoSite)
+            }
         } else if !allows(self.stage, form) {
             Some(Reason::Order)
         } else if repeats(&self.settings, form) {
@@ -335,12 +339,7 @@ impl Reader {
     }
 
     #[tactic(auto, unfolding(crate::specs::Progress::words_taken))]
-    fn take_words(
-        &mut self,
-        alloc: Global,
-        text: &[u8],
-        words: &[&[u8]],
-    ) -> Result<(), LineError>
+    fn take_words(&mut self, alloc: Global, text: &[u8], words: &[&[u8]]) -> Result<(), LineError>
         ensures { Takes (words_taken (progress_of self.old) text.now (texts words.now)) (progress_of self.new) result }
     {
         let Some(form) = form_of(text, words) else {

@@ -26,9 +26,7 @@ pub(crate) fn is_meant(first: u8, last: u8, rank: u8) -> bool
 fn has_route(routes: &[Routed], rank: u8, name: &[u8]) -> bool
     ensures { result ≡ has_route routes.now rank name.now }
 {
-    routes
-        .iter()
-        .any(|route| is_route_of(route, rank, name))
+    routes.iter().any(|route| is_route_of(route, rank, name))
 }
 
 fn is_route_of(route: &Routed, rank: u8, name: &[u8]) -> bool

@@ -123,9 +123,17 @@ pub(crate) fn step_form(words: &[&[u8]]) -> Option<StepForm>
     } else if has(words, 2, b"write") {
         write_form(words)
     } else if has(words, 2, b"read") {
-        if words.len() == 6 { Some(StepForm::Read) } else { None }
+        if words.len() == 6 {
+            Some(StepForm::Read)
+        } else {
+            None
+        }
     } else if has(words, 2, b"route") {
-        if words.len() == 4 { Some(StepForm::Route) } else { None }
+        if words.len() == 4 {
+            Some(StepForm::Route)
+        } else {
+            None
+        }
     } else if words.len() == 4 {
         validity_form(words)
     } else if words.len() == 3 {

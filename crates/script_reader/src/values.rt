@@ -236,7 +236,11 @@ fn next_place(word: &[u8], devices: u8, before: &[u8]) -> Option<u8>
     ensures { result ≡ next_place devices before.now word.now }
 {
     let place = below(word, devices)?;
-    if is_among(place, before) { None } else { Some(place) }
+    if is_among(place, before) {
+        None
+    } else {
+        Some(place)
+    }
 }
 
 /// The nodes of the words, each below a number and none twice.
