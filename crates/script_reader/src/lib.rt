@@ -18,3 +18,6 @@ mod words;
 
 pub use reading::{ScriptError, read_script};
 pub use script::{Item, RunItem, Script, TurnLine};
+
+#[cfg(test)]
+mod tests;
