@@ -1,5 +1,5 @@
 -- Numbers and bytes as they are spelled.
-use Rattle.std.specs.Prelude.{ℕ, ◌+◌, ◌*◌, ◌-◌, ◌==◌, ◌&&◌, not, nat_le, Bool, true, List, [], ◌∷◌, length, fold, Option, Some, None, Result, Ok, Err, option_map, option_and_then, if◌then◌else◌}
+use Rattle.std.specs.Prelude.{ℕ, ◌≡◌, ◌≤◌, decimal, ◌+◌, ◌*◌, ◌-◌, ◌==◌, ◌&&◌, not, nat_le, Bool, true, List, [], ◌∷◌, length, fold, Option, Some, None, Result, Ok, Err, option_map, option_and_then, if◌then◌else◌}
 use Rattle.std.specs.List.{list_all}
 use Rattle.scr_base.specs.Words.{is_between}
 use Rattle.scr_base.specs.Limits.{is_in}
@@ -44,3 +44,10 @@ hex_bytes (a ∷ b ∷ w) = option_and_then (λ x. option_map (λ xs. x ∷ xs) 
 -- the same, for at least one byte
 unfoldable pub bytes_in_hex : List ℕ → Result (List ℕ) Reason
 bytes_in_hex w = if length w == 0 then Err reason.Number else or_reason reason.Number (hex_bytes w)
+
+-- the number lies between two others and has at most 10 digits, and the word is its decimal form
+pub record IsDecimalIn (low high : ℕ) (w : List ℕ) (n : ℕ) : Type 0 where
+  pub above : low ≤ n
+  pub below : n ≤ high
+  pub short : n ≤ 9999999999
+  pub spelled : w ≡ decimal n

@@ -2,6 +2,7 @@
 #![tactic(auto)]
 
 mod form;
+mod laws;
 mod line;
 mod number;
 mod reader;
@@ -16,6 +17,7 @@ mod step_form;
 mod values;
 mod words;
 
+pub use laws::{numbers_are_decimal, pieces_make_the_text};
 pub use reading::{ScriptError, read_script};
 pub use script::{Item, RunItem, Script, TurnLine};
 
