@@ -8,7 +8,7 @@ use Rattle.std.proofs.lemmas.Str.Parse.{IsNumeralModel, numerals_by_fold, digits
 use Rattle.scr_base.specs.Limits.{is_in}
 use Rattle.script_reader.specs.Numbers.{is_digit, begins_well, is_number, value, number_in, IsDecimalIn}
 
-own : IsNumeralModel (λ ds. list_all is_digit ds ≡ true) value
+pub own : IsNumeralModel (λ ds. list_all is_digit ds ≡ true) value
 own = numerals_by_fold (λ ds. list_all is_digit ds ≡ true) (search rules) (λ n ds. fold (λ m b. 10 * m + (b - 48)) n ds) (search rules)
 
 record Four (a b c d : Bool) : Type 0 where

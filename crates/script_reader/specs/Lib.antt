@@ -9,3 +9,4 @@ pub mod Run
 pub mod Progress
 pub mod Readers
 pub mod Grammar
+pub mod Spelled

@@ -17,7 +17,7 @@ mod step_form;
 mod values;
 mod words;
 
-pub use laws::{numbers_are_decimal, pieces_make_the_text};
+pub use laws::{numbers_are_decimal, pieces_make_the_text, steps_are_read_as_spelled};
 pub use reading::{ScriptError, read_script};
 pub use script::{Item, RunItem, Script, TurnLine};
 

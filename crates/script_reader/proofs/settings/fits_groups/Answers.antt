@@ -1,5 +1,6 @@
 use Rattle.std.proofs.Common.{◌≡◌, ◌≢◌, ◌↔◌, ◌<◌, ℕ, Bool, true, false, Result, Ok, Err, IfOk, length, get_or, refl, sym, ap, ◌∙◌, arith}
 use Rattle.std.specs.Prelude.{is_ok, IsTrue}
+use Rattle.std.proofs.lemmas.List.Folds.{list_all_at}
 use Rattle.std.proofs.lemmas.List.FromFn.{length-range_with_len, get_or-range_with_len}
 use Rattle.scr_base.specs.Sets.{group_count, numbers_below, nodes_of_group, fits_set, fits_sets}
 use Rattle.scr_base.specs.declared.shape.Scheme.{Scheme}
@@ -7,14 +8,13 @@ use Rattle.process_sets.specs.declared.Sets.{Sets}
 use Rattle.process_sets.specs.declared.SetError.{SetError}
 use Rattle.process_sets.specs.declared.SetError.TheVariants.{SetTooSmall, Memory}
 use Rattle.process_sets.specs.Small.{IsFirstSmall}
-use Rattle.script_reader.proofs.Fronts.{list_all_fails}
 use Rattle.script_reader.proofs.settings.fits_groups.Goals as goal
 
 -- a group that is too small
 unfit : (scheme : Scheme) (size nodes group : ℕ) → IsFirstSmall scheme nodes size group → fits_sets scheme size nodes ≡ false
 unfit scheme size nodes group small =
     let e = get_or-range_with_len 0 (group_count nodes size) group 0 small.within in
-    list_all_fails _ (numbers_below (group_count nodes size)) group 0 (let l = length-range_with_len 0 (group_count nodes size) in omega (arith, l, small.within))
+    list_all_at _ (numbers_below (group_count nodes size)) group 0 (let l = length-range_with_len 0 (group_count nodes size) in omega (arith, l, small.within))
     (ap (λ (i : ℕ). fits_set scheme (length (nodes_of_group nodes size i))) (let h : get_or (numbers_below (group_count nodes size)) group 0 ≡ group = omega (arith, e) in h) ∙ small.small)
 
 its_fit : (s : Sets) (scheme : Scheme) (size nodes : ℕ) → s.nodes ≡ nodes → s.scheme ≡ scheme → s.size ≡ size → true ≡ fits_sets scheme size nodes
