@@ -1,6 +1,6 @@
 -- Lists that are read from the front.
-use Rattle.std.proofs.Common.{◌≡◌, ℕ, zero, suc, Bor, ◌+◌, ◌<◌, ◌≤◌, List, [], ◌∷◌, ◌++◌, Bool, true, false, refl, sym, ap, ◌∙◌, Option, Some, None, length, get_or, drop, map, filter, append_assoc, add-one, drop-cons, arith}
-use Rattle.std.specs.Prelude.{option_map, option_and_then, ◌||◌}
+use Rattle.std.proofs.Common.{◌≡◌, ℕ, zero, suc, Bor, ◌+◌, ◌<◌, ◌≤◌, List, [], ◌∷◌, ◌++◌, Bool, true, false, refl, sym, ap, ◌∙◌, Option, Some, None, length, get_or, drop, map, filter, append_assoc, add-one, arith}
+use Rattle.std.specs.Prelude.{option_map, ◌||◌}
 use Rattle.std.specs.List.{list_any, range_with_len}
 use Rattle.scr_base.specs.Sets.{numbers_below}
 use Rattle.script_reader.specs.Words.{texts}
@@ -93,3 +93,10 @@ range_more a (suc n) = ap (λ (ms : List ℕ). a ∷ ms) (range_more (a + 1) n �
 
 pub below_more : (n : ℕ) → numbers_below (n + 1) ≡ numbers_below n ++ n ∷ []
 below_more n = rw add-one (range_more 0 n ∙ ap (λ (m : ℕ). range_with_len 0 n ++ m ∷ []) (omega arith))
+
+-- the numbers below another that pass a test, and one more
+pub chosen_yes : {A : Type 0} (p : ℕ → Bool) (f : ℕ → A) (n : ℕ) → p n ≡ true → map f (filter p (numbers_below (n + 1))) ≡ map f (filter p (numbers_below n)) ++ f n ∷ []
+chosen_yes p f n e = rw (below_more n, filter-append p (numbers_below n) (n ∷ []), map-append f (filter p (numbers_below n)) (filter p (n ∷ [])), e) refl
+
+pub chosen_no : {A : Type 0} (p : ℕ → Bool) (f : ℕ → A) (n : ℕ) → p n ≡ false → map f (filter p (numbers_below (n + 1))) ≡ map f (filter p (numbers_below n))
+chosen_no p f n e = rw (below_more n, filter-append p (numbers_below n) (n ∷ []), map-append f (filter p (numbers_below n)) (filter p (n ∷ [])), e) (append-nil (map f (filter p (numbers_below n))))

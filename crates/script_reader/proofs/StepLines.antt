@@ -1,27 +1,23 @@
 -- Steps are read back as they are spelled.
-use Rattle.std.proofs.Common.{◌≡◌, ℕ, zero, suc, ◌+◌, ◌*◌, ◌-◌, ◌/◌, ◌%◌, ◌<◌, ◌≤◌, List, [], ◌∷◌, ◌++◌, Bool, true, false, refl, sym, ap, ◌∙◌, Option, Some, None, Result, Ok, Err, length, get_or, decimal, codes, arith, rules, ◌&&◌}
-use Rattle.std.specs.Prelude.{◌==◌, not, nat_le, IsTrue, option_map, option_and_then}
-use Rattle.std.specs.List.{slice_split, join_with_byte, list_all, list_any, All, AllByRecursion, range_with_len}
+use Rattle.std.proofs.Common.{◌≡◌, ℕ, zero, suc, ◌+◌, ◌*◌, ◌/◌, ◌%◌, ◌<◌, ◌≤◌, List, [], ◌∷◌, Bool, true, false, refl, sym, ap, ◌∙◌, Option, Some, None, Ok, length, get_or, decimal, codes, arith, ◌&&◌}
+use Rattle.std.specs.Prelude.{◌==◌, not, nat_le}
+use Rattle.std.specs.List.{list_all, list_any, All, AllByRecursion}
 use Rattle.std.proofs.lemmas.List.Elements.{All-from_get_or}
 use Rattle.std.proofs.lemmas.List.Splits.{slice_split_at, slice_split_none}
 use Rattle.std.proofs.lemmas.Fmt.{digits_decimal, decimal_nonempty}
-use Rattle.scr_base.specs.Words.{is_word_byte, is_word, is_between}
-use Rattle.scr_base.specs.declared.shape.Flags.{Flags}
+use Rattle.scr_base.specs.Words.{is_word_byte, is_word}
 use Rattle.scr_base.specs.declared.shape.Flags.TheVariants as flags
 use Rattle.scr_base.specs.declared.content.Content.{Content}
 use Rattle.scr_base.specs.declared.content.Content.TheVariants as content
 use Rattle.scr_base.specs.declared.content.Step.{Step}
 use Rattle.scr_base.specs.declared.content.Step.TheVariants as step
-use Rattle.ckpt_model.specs.Text.{words, step_text, content_text, flags_text, valid_text, hex_text, hex_digit}
+use Rattle.ckpt_model.specs.Text.{words, hex_text, hex_digit}
 use Rattle.script_reader.specs.declared.step_form.StepForm.{StepForm}
 use Rattle.script_reader.specs.declared.step_form.StepForm.TheVariants as kind
-use Rattle.script_reader.specs.declared.form.BodyForm.TheVariants as body
-use Rattle.script_reader.specs.declared.form.Form.TheVariants as form
-use Rattle.script_reader.specs.declared.line.Line.TheVariants as line
 use Rattle.std.proofs.lemmas.List.FromFn.{length-range_with_len, get_or-range_with_len}
 use Rattle.scr_base.specs.Sets.{numbers_below}
 use Rattle.script_reader.specs.Numbers.{is_digit, number_in, hex_bytes, byte_in_hex, bytes_in_hex, hex_digit as hex_value}
-use Rattle.script_reader.specs.Words.{pieces_of, words_of, has_empty, is_empty}
+use Rattle.script_reader.specs.Words.{pieces_of, words_of, is_empty}
 use Rattle.script_reader.specs.Values.{Size, ranks_of, who_of, line_of, rank_line, step_of, read_of, write_text, write_hex, write_fill, fill_in, length_in, number_at, word_in}
 use Rattle.script_reader.specs.Forms.{form_of, body_form, rank_form, step_form, bare_form, validity_form, valid_word, start_form, flags_word, write_form}
 use Rattle.script_reader.specs.Spelled.{IsScriptContent, IsScriptStep, rank_text, IsReadAsStep}

@@ -1,5 +1,5 @@
 -- The forms of a line: which words are fixed, and how many words there are.
-use Rattle.std.specs.Prelude.{ℕ, ◌==◌, ◌&&◌, not, nat_le, Bool, true, false, List, length, codes, Option, Some, None, option_map, option_and_then, if◌then◌else◌}
+use Rattle.std.specs.Prelude.{ℕ, ◌==◌, ◌&&◌, nat_le, Bool, true, false, List, length, codes, Option, Some, None, option_map, option_and_then, if◌then◌else◌}
 use Rattle.scr_base.specs.declared.shape.Flags.{Flags}
 use Rattle.scr_base.specs.declared.shape.Flags.TheVariants as flags
 use Rattle.scr_base.specs.declared.actor.Actor.TheVariants as actor

@@ -1,5 +1,5 @@
 -- Numbers and bytes as they are spelled.
-use Rattle.std.specs.Prelude.{ℕ, ◌≡◌, ◌≤◌, decimal, ◌+◌, ◌*◌, ◌-◌, ◌==◌, ◌&&◌, not, nat_le, Bool, true, List, [], ◌∷◌, length, fold, Option, Some, None, Result, Ok, Err, option_map, option_and_then, if◌then◌else◌}
+use Rattle.std.specs.Prelude.{ℕ, ◌≡◌, ◌≤◌, decimal, ◌+◌, ◌*◌, ◌-◌, ◌==◌, ◌&&◌, not, nat_le, Bool, true, List, [], ◌∷◌, length, fold, Option, Some, None, Result, Err, option_map, option_and_then, if◌then◌else◌}
 use Rattle.std.specs.List.{list_all}
 use Rattle.scr_base.specs.Words.{is_between}
 use Rattle.scr_base.specs.Limits.{is_in}

@@ -1,5 +1,5 @@
 -- The programs of a run, and what they cost.
-use Rattle.std.specs.Prelude.{ℕ, ◌+◌, ◌*◌, ◌-◌, ◌&&◌, nat_le, Bool, List, [], ◌∷◌, ◌++◌, length, map, filter, Option, Some, None, option_map, if◌then◌else◌}
+use Rattle.std.specs.Prelude.{ℕ, ◌+◌, ◌*◌, ◌-◌, ◌&&◌, nat_le, List, [], ◌∷◌, ◌++◌, length, map, filter, Option, Some, None, option_map, if◌then◌else◌}
 use Rattle.scr_base.specs.Sets.{numbers_below}
 use Rattle.scr_base.specs.declared.content.Content.{Content}
 use Rattle.scr_base.specs.declared.content.Content.TheVariants.{Text, Hex, Fill}

@@ -1,5 +1,5 @@
 -- The values of a line behind the settings: numbers first, then words, then ranks, then nodes.
-use Rattle.std.specs.Prelude.{ℕ, ◌+◌, ◌*◌, ◌-◌, ◌==◌, nat_le, Bool, List, [], ◌∷◌, ◌++◌, length, codes, bytes_eq, Option, Some, None, Result, Ok, Err, option_map, option_and_then, if◌then◌else◌}
+use Rattle.std.specs.Prelude.{ℕ, ◌+◌, ◌*◌, ◌-◌, ◌==◌, nat_le, List, [], ◌∷◌, ◌++◌, length, codes, bytes_eq, Option, Some, None, Result, Ok, Err, option_and_then, if◌then◌else◌}
 use Rattle.scr_base.specs.Words.{is_word, is_name}
 use Rattle.scr_base.specs.Sets.{is_among}
 use Rattle.scr_base.specs.declared.shape.Shape.{Shape}
@@ -25,7 +25,6 @@ use Rattle.script_reader.specs.declared.form.HaltForm.{HaltForm}
 use Rattle.script_reader.specs.declared.form.HaltForm.TheVariants as halt_form
 use Rattle.script_reader.specs.declared.form.BodyForm.{BodyForm}
 use Rattle.script_reader.specs.declared.form.BodyForm.TheVariants as body
-use Rattle.script_reader.specs.declared.script.Item.{Item}
 use Rattle.script_reader.specs.declared.script.Item.TheVariants as item
 use Rattle.script_reader.specs.declared.line.Line.{Line}
 use Rattle.script_reader.specs.declared.line.Line.TheVariants as line

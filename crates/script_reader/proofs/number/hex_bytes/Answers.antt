@@ -1,4 +1,4 @@
-use Rattle.std.proofs.Common.{◌≡◌, ap, sym, ◌∙◌, arith, rules}
+use Rattle.std.proofs.Common.{ap, sym, arith, rules}
 use Rattle.script_reader.specs.Reasons.{or_reason}
 use Rattle.script_reader.specs.declared.reason.Reason.TheVariants.{Number}
 use Rattle.script_reader.proofs.Fronts.{hex_more, hex_stops, hex_done, hex_odd}

@@ -1,4 +1,4 @@
-use Rattle.std.proofs.Common.{◌≡◌, ◌++◌, length}
+use Rattle.std.proofs.Common.{◌≡◌, length}
 use Rattle.script_reader.specs.Numbers.{hex_bytes}
 use Rattle.script_reader.proofs.Fronts.{with_front}
 use Rattle.script_reader.proofs.number.hex_bytes.Given as goal

@@ -1,5 +1,5 @@
-use Rattle.std.proofs.Common.{◌≡◌, ◌<◌, length, sym, ◌∙◌, arith}
-use Rattle.std.proofs.lemmas.List.{drop-drop, length-drop}
+use Rattle.std.proofs.Common.{◌<◌, length, sym, arith}
+use Rattle.std.proofs.lemmas.List.{drop-drop}
 use Rattle.script_reader.specs.Readers.{progress_of}
 use Rattle.script_reader.proofs.Lines.{line_taken, line_fails, lines_done, place_within}
 use Rattle.script_reader.proofs.reading.read_lines.Goals as goal

@@ -1,4 +1,4 @@
-use Rattle.std.proofs.Common.{rules, tests}
+use Rattle.std.proofs.Common.{rules}
 use Rattle.std.proofs.lemmas.Fn.{filter_same}
 use Rattle.script_reader.proofs.routes.forget.Goals as goal
 

@@ -1,4 +1,4 @@
-use Rattle.std.proofs.Common.{◌≡◌, ap, sym, ◌∙◌, refl, ◌++◌, ◌∷◌, [], arith}
+use Rattle.std.proofs.Common.{sym, arith}
 use Rattle.std.proofs.lemmas.List.FromFn.{map-range_with_len_more}
 use Rattle.script_reader.specs.Run.{program_of}
 use Rattle.script_reader.proofs.run.programs_of.Goals as goal

@@ -1,6 +1,6 @@
-use Rattle.std.proofs.Common.{◌≡◌, ℕ, List, ◌+◌, take, drop, ◌==◌, refl, sym, ap, ◌∙◌}
+use Rattle.std.proofs.Common.{◌≡◌, ℕ, List, take, drop, ◌==◌, refl, sym}
 use Rattle.std.proofs.lemmas.List.{drop-drop}
-use Rattle.std.specs.Prelude.{Option, Some, option_map, position}
+use Rattle.std.specs.Prelude.{Some, position}
 use Rattle.script_reader.specs.Words.{cut_at}
 use Rattle.script_reader.proofs.words.cut.Goals as goal
 
