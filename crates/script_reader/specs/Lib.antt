@@ -1,0 +1,12 @@
+pub mod Reasons
+pub mod Numbers
+pub mod Words
+pub mod Forms
+pub mod Values
+pub mod Settings
+pub mod Routes
+pub mod Run
+pub mod Progress
+pub mod Readers
+pub mod Grammar
+pub mod Spelled
