@@ -1,7 +1,7 @@
 -- Rows that are read one after another.
-use Rattle.std.proofs.Common.{◌≡◌, ◌<◌, ℕ, ◌/◌, ◌%◌, true, false, length, arith, List, [], ◌∷◌, ◌++◌, map, Option, Some, None, Result, Ok, Err, refl, ap, sym, ◌∙◌, append_assoc}
+use Rattle.std.proofs.Common.{◌≡◌, ◌<◌, ℕ, ◌/◌, ◌%◌, true, false, length, arith, List, [], ◌∷◌, ◌++◌, map, Option, Some, None, Result, Ok, Err, refl, ap, subst, sym, ◌∙◌, append_assoc}
 use Rattle.std.specs.Prelude.{option_and_then}
-use Rattle.std.specs.List.{join_with_byte}
+use Rattle.std.specs.List.{AllByRecursion, join_with_byte}
 use Rattle.std.proofs.lemmas.List.{append-nil}
 use Rattle.std.proofs.lemmas.List.Concat.{flat_map-append}
 use Rattle.ckpt_model.specs.Text.{hex_digit, hex_text}
@@ -105,3 +105,12 @@ unfolding read_pairs
 pairs_odd [] front total empty short so_far = absurd cc
 pairs_odd (b ∷ []) front total empty short so_far = sym so_far
 pairs_odd (b ∷ d ∷ bs) front total empty short so_far = absurd (omega arith)
+
+-- ---- what the fields may be
+
+fits_more : {X : Type 0} (P : X → Type 0) (xs : List X) (x : X) → AllByRecursion P xs → P x → AllByRecursion P (xs ++ x ∷ [])
+fits_more P [] x all p = (p, tt)
+fits_more P (y ∷ ys) x all p = (all.0, fits_more P ys x all.1 p)
+
+pub fits_push : {X : Type 0} (P : X → Type 0) (xs : List X) (x : X) (more : List X) → AllByRecursion P xs → P x → more ≡ xs ++ x ∷ [] → AllByRecursion P more
+fits_push {X = X} P xs x more all p is = subst (λ (ys : List X). AllByRecursion P ys) (sym is) (fits_more P xs x all p)

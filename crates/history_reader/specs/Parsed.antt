@@ -7,7 +7,7 @@ use Rattle.history_reader.specs.declared.fault.Fault.{Fault}
 use Rattle.history_reader.specs.declared.fault.Fault.TheVariants as fault
 use Rattle.history_reader.specs.declared.parsing.HistoryError.{HistoryError}
 use Rattle.history_reader.specs.declared.parsing.HistoryError.TheVariants.{Bad, Memory}
-use Rattle.history_reader.specs.Spelled.{IsSpelled, IsPrintable}
+use Rattle.history_reader.specs.Spelled.{IsPrintable}
 
 -- the answer is the history of these events, unless memory is wanting
 abbrev pub Answers : List Event → Result Track HistoryError → Type 0
@@ -18,7 +18,7 @@ Answers events (Err Memory) = Unit {0}
 -- the lines before are the text of events, and what follows them doesn't begin with the line of an event
 pub record IsBadAfter (bytes : List ℕ) (events : List Event) (rest : List ℕ) (line : ℕ) : Type 0 where
   pub before : bytes ≡ history_text events ++ rest
-  pub spelled : All IsSpelled events
+  pub printable : All IsPrintable events
   pub more : 0 < length rest
   pub no_event : (e : Event) (others : List ℕ) → IsPrintable e → rest ≡ text_of e ++ 10 ∷ others → ⊥
   pub line_is : line ≡ length events + 1
@@ -27,6 +27,12 @@ pub record IsBadAfter (bytes : List ℕ) (events : List Event) (rest : List ℕ)
 abbrev pub IsBadAt : List ℕ → HistoryError → Type 0
 IsBadAt bytes (Bad line) = (events : List Event) × (rest : List ℕ) × IsBadAfter bytes events rest line
 IsBadAt bytes Memory = Unit {0}
+
+-- the answer is this line, unless memory is wanting
+abbrev pub AnswersBad : ℕ → Result Track HistoryError → Type 0
+AnswersBad line (Ok history) = ⊥
+AnswersBad line (Err (Bad found)) = found ≡ line
+AnswersBad line (Err Memory) = Unit {0}
 
 -- the error of a line behind so many
 abbrev pub IsErrorOf : Fault → ℕ → HistoryError → Type 0

@@ -4,6 +4,7 @@ ghost use Rattle.std.specs.Prelude.{◌≡◌, ◌∷◌, ◌++◌, ◌^◌, ◌
 ghost use Rattle.ckpt_model.specs.Text.{id_text, device_text, full_text};
 ghost use Rattle.history_reader.specs.Part.{IsPart, IsPartOf};
 ghost use Rattle.history_reader.specs.Reading.{read_below, read_byte, read_device, read_full, read_id, read_number, read_part, read_place};
+ghost use Rattle.history_reader.specs.Spelled.{FitsDevice, FitsFull, FitsId, FitsPlace};
 
 use crate::cuts::{cut, is};
 use itoa::Buffer;
@@ -52,6 +53,7 @@ pub(crate) fn medium(digits: &[u8]) -> Option<u32>
 #[tactic(auto, unfolding(crate::specs::Reading::read_id))]
 pub(crate) fn dataset(bytes: &[u8]) -> Option<DataId>
     ensures text { IfSome result (λ which. bytes.now ≡ id_text which) }
+    ensures fits { IfSome result (λ which. FitsId which) }
     ensures gives { result ≡ read_id bytes.now }
 {
     let (id, run) = cut(bytes, b'.')?;
@@ -65,6 +67,7 @@ pub(crate) fn dataset(bytes: &[u8]) -> Option<DataId>
 #[tactic(auto, unfolding(crate::specs::Reading::read_place))]
 pub(crate) fn place(bytes: &[u8]) -> Option<(u8, u32, &[u8])>
     ensures text { IfSome result (λ found. bytes.now ≡ decimal found.0 ++ 32 ∷ (decimal found.1 ++ 32 ∷ found.2.now)) }
+    ensures fits { IfSome result (λ found. FitsPlace found.0 found.1) }
     ensures gives { option_map (λ found. (found.0, (found.1, found.2.now))) result ≡ read_place bytes.now }
 {
     let (rank, rest) = cut(bytes, b' ')?;
@@ -76,6 +79,7 @@ pub(crate) fn place(bytes: &[u8]) -> Option<(u8, u32, &[u8])>
 #[tactic(auto, unfolding(crate::specs::Reading::read_device))]
 pub(crate) fn device(bytes: &[u8]) -> Option<(u8, u64)>
     ensures text { IfSome result (λ found. device_text found.0 found.1 ≡ codes "device " ++ bytes.now) }
+    ensures fits { IfSome result (λ found. FitsDevice found.0 found.1) }
     ensures gives { result ≡ read_device bytes.now }
 {
     let (node, count) = cut(bytes, b' ')?;
@@ -86,6 +90,7 @@ pub(crate) fn device(bytes: &[u8]) -> Option<(u8, u64)>
 #[tactic(auto, unfolding(crate::specs::Reading::read_full))]
 pub(crate) fn full(bytes: &[u8]) -> Option<(u8, u64, u64)>
     ensures text { IfSome result (λ found. full_text found.0 found.1 found.2 ≡ codes "full " ++ bytes.now) }
+    ensures fits { IfSome result (λ found. FitsFull found.0 found.1 found.2) }
     ensures gives { option_map (λ found. (found.0, (found.1, found.2))) result ≡ read_full bytes.now }
 {
     let (node, rest) = cut(bytes, b' ')?;

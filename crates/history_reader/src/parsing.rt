@@ -1,10 +1,10 @@
 //! Histories read from their text.
 
-ghost use Rattle.std.specs.Prelude.{◌≡◌, ◌∷◌, ◌++◌, List, IfOk, IfErr, All, length};
+ghost use Rattle.std.specs.Prelude.{◌≡◌, ◌∷◌, ◌++◌, ℕ, List, IfOk, IfErr, All, length};
 ghost use Rattle.ckpt_model.specs.declared.event.Event.{Event};
 ghost use Rattle.ckpt_model.specs.Text.{text_of, history_text};
-ghost use Rattle.history_reader.specs.Spelled.{IsSpelled, IsPrintable};
-ghost use Rattle.history_reader.specs.Parsed.{Answers, IsBadAt, IsErrorOf};
+ghost use Rattle.history_reader.specs.Spelled.{IsSpelled, IsPrintable, Fits};
+ghost use Rattle.history_reader.specs.Parsed.{Answers, AnswersBad, IsBadAt, IsErrorOf};
 ghost use Rattle.history_reader.specs.Reading.{GivesSeen, read_line};
 
 use crate::cuts::cut;
@@ -41,11 +41,12 @@ impl From<Memory> for HistoryError {
 pub fn parse(alloc: Global, bytes: &[u8]) -> Result<History, HistoryError>
     // What is read has these bytes as its text.
     ensures text { IfOk result (λ history. bytes.now ≡ history_text history.events) }
-    ensures spelled { IfOk result (λ history. All IsSpelled history.events) }
+    ensures printable { IfOk result (λ history. All IsPrintable history.events) }
     // Each text of a history is read, as that history and no other.
     ensures only { (events : List Event) → All IsPrintable events → bytes.now ≡ history_text events → Answers events result }
-    // Which line it is.
+    // A bad line is the first that is no event's text, and where there is one, it is the answer.
     ensures bad { IfErr result (λ error. IsBadAt bytes.now error) }
+    ensures first { (line : ℕ) → IsBadAt bytes.now (HistoryError.Bad line) → AnswersBad line result }
 {
     let mut history = History::new(alloc);
     let mut rest = bytes;
@@ -66,6 +67,7 @@ pub fn parse(alloc: Global, bytes: &[u8]) -> Result<History, HistoryError>
 fn line_of(alloc: Global, bytes: &[u8]) -> Result<(Event, &[u8]), Fault>
     ensures text { IfOk result (λ found. bytes.now ≡ text_of found.0 ++ 10 ∷ found.1.now) }
     ensures spelled { IfOk result (λ found. IsSpelled found.0) }
+    ensures fits { IfOk result (λ found. Fits found.0) }
     ensures gives { GivesSeen (λ found. (found.0, found.1.now)) result (read_line bytes.now) }
 {
     let (line, rest) = cut(bytes, b'\n').ok_or(Fault::Bad)?;

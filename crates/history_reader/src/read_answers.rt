@@ -1,8 +1,8 @@
 //! Reading the answers of calls and of commands.
 
-ghost use Rattle.std.specs.Prelude.{◌≡◌, ◌∷◌, ◌++◌, IfOk, IfSome, codes, Some};
+ghost use Rattle.std.specs.Prelude.{◌≡◌, ◌<◌, ◌^◌, ◌∷◌, ◌++◌, IfOk, IfSome, codes, Some};
 ghost use Rattle.ckpt_model.specs.Text.{phase_text, reason_text, refusal_text, reply_text, answer_text, kind_text, cause_text, given_up_text, device_text, full_text, id_text};
-ghost use Rattle.history_reader.specs.Spelled.{IsSpelledReply};
+ghost use Rattle.history_reader.specs.Spelled.{IsSpelledReply, FitsAnswer, FitsCause, FitsGivenUp, FitsRefusal, FitsReply};
 ghost use Rattle.history_reader.specs.Reading.{Gives, either_way, read_answer, read_bare_answer, read_bare_cause, read_bare_refusal, read_bare_reply, read_cause, read_full_answer, read_full_cause, read_full_refusal, read_full_reply, read_given_up, read_id, read_kind, read_phase, read_prefix_device, read_prefix_full, read_reason, read_reply, read_routed, read_worded_reply};
 
 use crate::cuts::{cut, is};
@@ -82,6 +82,7 @@ pub(crate) fn kind_of(word: &[u8]) -> Option<Kind>
 #[tactic(auto, unfolding(crate::specs::Reading::read_bare_refusal))]
 fn bare_refusal_of(word: &[u8]) -> Option<Refusal>
     ensures text { IfSome result (λ refusal. word.now ≡ refusal_text refusal) }
+    ensures fits { IfSome result (λ refusal. FitsRefusal refusal) }
     ensures gives { result ≡ read_bare_refusal word.now }
 {
     if is(word, b"badname") {
@@ -98,6 +99,7 @@ fn bare_refusal_of(word: &[u8]) -> Option<Refusal>
 #[tactic(auto, unfolding(crate::specs::Reading::read_full_refusal))]
 fn full_refusal_of(word: &[u8], rest: &[u8]) -> Option<Refusal>
     ensures text { IfSome result (λ refusal. refusal_text refusal ≡ word.now ++ 32 ∷ rest.now) }
+    ensures fits { IfSome result (λ refusal. FitsRefusal refusal) }
     ensures gives { result ≡ read_full_refusal word.now rest.now }
 {
     if is(word, b"mismatch") {
@@ -130,6 +132,7 @@ fn full_refusal_of(word: &[u8], rest: &[u8]) -> Option<Refusal>
 pub(crate) fn reply_of(alloc: Global, bytes: &[u8]) -> Result<Reply, Fault>
     ensures text { IfOk result (λ answer. bytes.now ≡ reply_text answer) }
     ensures spelled { IfOk result (λ answer. IsSpelledReply answer) }
+    ensures fits { IfOk result (λ answer. FitsReply answer) }
     ensures gives { Gives result (read_reply bytes.now) }
 {
     match cut(bytes, b' ') {
@@ -142,6 +145,7 @@ pub(crate) fn reply_of(alloc: Global, bytes: &[u8]) -> Result<Reply, Fault>
 fn bare_reply_of(word: &[u8]) -> Option<Reply>
     ensures text { IfSome result (λ answer. word.now ≡ reply_text answer) }
     ensures spelled { IfSome result (λ answer. IsSpelledReply answer) }
+    ensures fits { IfSome result (λ answer. FitsReply answer) }
     ensures gives { result ≡ read_bare_reply word.now }
 {
     if is(word, b"ok") {
@@ -169,6 +173,7 @@ fn bare_reply_of(word: &[u8]) -> Option<Reply>
 fn full_reply_of(alloc: Global, word: &[u8], rest: &[u8]) -> Result<Reply, Fault>
     ensures text { IfOk result (λ answer. reply_text answer ≡ word.now ++ 32 ∷ rest.now) }
     ensures spelled { IfOk result (λ answer. IsSpelledReply answer) }
+    ensures fits { IfOk result (λ answer. FitsReply answer) }
     ensures gives { Gives result (read_full_reply word.now rest.now) }
 {
     match dataset(word) {
@@ -184,6 +189,7 @@ fn full_reply_of(alloc: Global, word: &[u8], rest: &[u8]) -> Result<Reply, Fault
 fn worded_reply_of(alloc: Global, word: &[u8], rest: &[u8]) -> Result<Reply, Fault>
     ensures text { IfOk result (λ answer. reply_text answer ≡ word.now ++ 32 ∷ rest.now) }
     ensures spelled { IfOk result (λ answer. IsSpelledReply answer) }
+    ensures fits { IfOk result (λ answer. FitsReply answer) }
     ensures gives { Gives result (read_worded_reply word.now rest.now) }
 {
     if is(word, b"ok") {
@@ -207,6 +213,7 @@ fn worded_reply_of(alloc: Global, word: &[u8], rest: &[u8]) -> Result<Reply, Fau
 fn named_reply_of(alloc: Global, rest: &[u8]) -> Result<Reply, Fault>
     ensures text { IfOk result (λ answer. reply_text answer ≡ codes "ok " ++ rest.now) }
     ensures spelled { IfOk result (λ answer. IsSpelledReply answer) }
+    ensures fits { IfOk result (λ answer. FitsReply answer) }
     ensures gives { Gives result (either_way (read_id rest.now) (read_routed rest.now) (λ which. Some (Reply.Started which))) }
 {
     match dataset(rest) {
@@ -219,6 +226,7 @@ fn named_reply_of(alloc: Global, rest: &[u8]) -> Result<Reply, Fault>
 fn routed_of(alloc: Global, rest: &[u8]) -> Result<Reply, Fault>
     ensures text { IfOk result (λ answer. reply_text answer ≡ codes "ok " ++ rest.now) }
     ensures spelled { IfOk result (λ answer. IsSpelledReply answer) }
+    ensures fits { IfOk result (λ answer. FitsReply answer) }
     ensures gives { Gives result (read_routed rest.now) }
 {
     let _numbers = part(rest).ok_or(Fault::Bad)?;
@@ -231,6 +239,7 @@ fn routed_of(alloc: Global, rest: &[u8]) -> Result<Reply, Fault>
 #[tactic(auto, unfolding(crate::specs::Reading::read_answer))]
 pub(crate) fn answer_of(bytes: &[u8]) -> Option<CommandAnswer>
     ensures text { IfSome result (λ answer. bytes.now ≡ answer_text answer) }
+    ensures fits { IfSome result (λ answer. FitsAnswer answer) }
     ensures gives { result ≡ read_answer bytes.now }
 {
     match cut(bytes, b' ') {
@@ -242,6 +251,7 @@ pub(crate) fn answer_of(bytes: &[u8]) -> Option<CommandAnswer>
 #[tactic(auto, unfolding(crate::specs::Reading::read_bare_answer))]
 fn bare_answer_of(word: &[u8]) -> Option<CommandAnswer>
     ensures text { IfSome result (λ answer. word.now ≡ answer_text answer) }
+    ensures fits { IfSome result (λ answer. FitsAnswer answer) }
     ensures gives { result ≡ read_bare_answer word.now }
 {
     if is(word, b"ok") {
@@ -256,6 +266,7 @@ fn bare_answer_of(word: &[u8]) -> Option<CommandAnswer>
 #[tactic(auto, unfolding(crate::specs::Reading::read_full_answer))]
 fn refused_answer_of(word: &[u8], rest: &[u8]) -> Option<CommandAnswer>
     ensures text { IfSome result (λ answer. answer_text answer ≡ word.now ++ 32 ∷ rest.now) }
+    ensures fits { IfSome result (λ answer. FitsAnswer answer) }
     ensures gives { result ≡ read_full_answer word.now rest.now }
 {
     if is(word, b"device") {
@@ -274,6 +285,7 @@ fn refused_answer_of(word: &[u8], rest: &[u8]) -> Option<CommandAnswer>
 #[tactic(auto, unfolding(crate::specs::Reading::read_prefix_device))]
 pub(crate) fn prefix_device(rest: &[u8]) -> Option<u64>
     ensures text { IfSome result (λ count. device_text 32 count ≡ codes "device " ++ rest.now) }
+    ensures fits { IfSome result (λ count. count < 2 ^ 64) }
     ensures gives { result ≡ read_prefix_device rest.now }
 {
     let (node, count) = device(rest)?;
@@ -284,6 +296,7 @@ pub(crate) fn prefix_device(rest: &[u8]) -> Option<u64>
 #[tactic(auto, unfolding(crate::specs::Reading::read_prefix_full))]
 pub(crate) fn prefix_full(rest: &[u8]) -> Option<(u64, u64)>
     ensures text { IfSome result (λ found. full_text 32 found.0 found.1 ≡ codes "full " ++ rest.now) }
+    ensures fits { IfSome result (λ found. (found.0 < 2 ^ 64) × (found.1 < 2 ^ 64)) }
     ensures gives { result ≡ read_prefix_full rest.now }
 {
     let (node, used, capacity) = full(rest)?;
@@ -297,6 +310,7 @@ pub(crate) fn prefix_full(rest: &[u8]) -> Option<(u64, u64)>
 #[tactic(auto, unfolding(crate::specs::Reading::read_cause))]
 pub(crate) fn cause_of(bytes: &[u8]) -> Option<StopCause>
     ensures text { IfSome result (λ cause. bytes.now ≡ cause_text cause) }
+    ensures fits { IfSome result (λ cause. FitsCause cause) }
     ensures gives { result ≡ read_cause bytes.now }
 {
     match cut(bytes, b' ') {
@@ -308,6 +322,7 @@ pub(crate) fn cause_of(bytes: &[u8]) -> Option<StopCause>
 #[tactic(auto, unfolding(crate::specs::Reading::read_bare_cause))]
 fn bare_cause_of(word: &[u8]) -> Option<StopCause>
     ensures text { IfSome result (λ cause. word.now ≡ cause_text cause) }
+    ensures fits { IfSome result (λ cause. FitsCause cause) }
     ensures gives { result ≡ read_bare_cause word.now }
 {
     if is(word, b"ended") {
@@ -326,6 +341,7 @@ fn bare_cause_of(word: &[u8]) -> Option<StopCause>
 #[tactic(auto, unfolding(crate::specs::Reading::read_full_cause))]
 fn fault_cause_of(word: &[u8], rest: &[u8]) -> Option<StopCause>
     ensures text { IfSome result (λ cause. cause_text cause ≡ word.now ++ 32 ∷ rest.now) }
+    ensures fits { IfSome result (λ cause. FitsCause cause) }
     ensures gives { result ≡ read_full_cause word.now rest.now }
 {
     if is(word, b"device") {
@@ -346,6 +362,7 @@ fn fault_cause_of(word: &[u8], rest: &[u8]) -> Option<StopCause>
 #[tactic(auto, unfolding(crate::specs::Reading::read_given_up))]
 pub(crate) fn given_up_of(word: &[u8], rest: &[u8]) -> Option<GivenUpCause>
     ensures text { IfSome result (λ cause. given_up_text cause ≡ word.now ++ 32 ∷ rest.now) }
+    ensures fits { IfSome result (λ cause. FitsGivenUp cause) }
     ensures gives { result ≡ read_given_up word.now rest.now }
 {
     if is(word, b"device") {

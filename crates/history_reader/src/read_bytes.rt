@@ -1,8 +1,10 @@
 //! Reading names, words and bytes in hexadecimal.
 
-ghost use Rattle.std.specs.Prelude.{◌≡◌, [], ◌∷◌, ◌<◌, IfNone, IfOk, IfSome, length};
+ghost use Rattle.std.specs.Prelude.{◌≡◌, [], ◌∷◌, ◌<◌, IfNone, IfOk, IfSome, length, IsTrue};
+ghost use Rattle.scr_base.specs.Words.{is_name, is_word};
 ghost use Rattle.ckpt_model.specs.Text.{bytes_text, hex_digit, hex_text, lost_text};
 ghost use Rattle.history_reader.specs.Reading.{Gives, GivesSeen, read_bytes, read_digit, read_hex, read_lost, read_name, read_pair, read_pairs, read_word};
+ghost use Rattle.history_reader.specs.Spelled.{FitsBytes};
 
 use crate::cuts::{is, is_empty};
 use crate::fault::Fault;
@@ -13,6 +15,7 @@ use std::alloc::Global;
 #[tactic(auto, unfolding(crate::specs::Reading::read_name))]
 pub(crate) fn name_of(alloc: Global, bytes: &[u8]) -> Result<Name, Fault>
     ensures text { IfOk result (λ name. name ≡ bytes.now) }
+    ensures fits { IfOk result (λ name. IsTrue (is_name name)) }
     ensures gives { Gives result (read_name bytes.now) }
 {
     match Name::read(alloc, bytes) {
@@ -25,6 +28,7 @@ pub(crate) fn name_of(alloc: Global, bytes: &[u8]) -> Result<Name, Fault>
 #[tactic(auto, unfolding(crate::specs::Reading::read_word))]
 pub(crate) fn word_of(alloc: Global, bytes: &[u8]) -> Result<Word, Fault>
     ensures text { IfOk result (λ word. word ≡ bytes.now) }
+    ensures fits { IfOk result (λ word. IsTrue (is_word word)) }
     ensures gives { Gives result (read_word bytes.now) }
 {
     match Word::read(alloc, bytes) {
@@ -38,6 +42,7 @@ pub(crate) fn word_of(alloc: Global, bytes: &[u8]) -> Result<Word, Fault>
 #[tactic(auto, unfolding(crate::specs::Reading::read_lost))]
 pub(crate) fn lost_of(alloc: Global, bytes: &[u8]) -> Result<Bytes, Fault>
     ensures text { IfOk result (λ lost. bytes.now ≡ lost_text lost) }
+    ensures fits { IfOk result (λ lost. FitsBytes lost) }
     ensures gives { Gives result (read_lost bytes.now) }
 {
     if is(bytes, b"-") {
@@ -82,6 +87,7 @@ fn first_pair(bytes: &[u8]) -> Option<(u8, u8, &[u8])>
 /// Bytes in hexadecimal, two digits each.
 fn pairs_of(alloc: Global, digits: &[u8]) -> Result<Vec<u8>, Fault>
     ensures text { IfOk result (λ bytes. digits.now ≡ hex_text bytes.items) }
+    ensures fits { IfOk result (λ bytes. FitsBytes bytes.items) }
     ensures gives { GivesSeen (λ bytes. bytes.items) result (read_pairs digits.now) }
 {
     let mut bytes = Vec::new(alloc);
@@ -105,6 +111,7 @@ fn pairs_of(alloc: Global, digits: &[u8]) -> Result<Vec<u8>, Fault>
 pub(crate) fn hex_of(alloc: Global, digits: &[u8]) -> Result<Bytes, Fault>
     ensures text { IfOk result (λ bytes. digits.now ≡ hex_text bytes) }
     ensures some { IfOk result (λ bytes. 0 < length bytes) }
+    ensures fits { IfOk result (λ bytes. FitsBytes bytes) }
     ensures gives { Gives result (read_hex digits.now) }
 {
     if is_empty(digits) {
@@ -117,6 +124,7 @@ pub(crate) fn hex_of(alloc: Global, digits: &[u8]) -> Result<Bytes, Fault>
 #[tactic(auto, unfolding(crate::specs::Reading::read_bytes))]
 pub(crate) fn bytes_of(alloc: Global, text: &[u8]) -> Result<Bytes, Fault>
     ensures text { IfOk result (λ bytes. text.now ≡ bytes_text bytes) }
+    ensures fits { IfOk result (λ bytes. FitsBytes bytes) }
     ensures gives { Gives result (read_bytes text.now) }
 {
     if is(text, b"-") {

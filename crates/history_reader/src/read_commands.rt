@@ -1,10 +1,11 @@
 //! Reading the lines of what happens between runs.
 
-ghost use Rattle.std.specs.Prelude.{◌≡◌, ◌∷◌, ◌++◌, IfOk, IfSome, Some, codes};
+ghost use Rattle.std.specs.Prelude.{◌≡◌, ◌<◌, ◌^◌, ◌∷◌, ◌++◌, IfOk, IfSome, Some, codes};
+ghost use Rattle.std.specs.List.{AllByRecursion};
 ghost use Rattle.ckpt_model.specs.Text.{halt_text, list_text, list_word, note_text, scavenged_text, state_text};
 ghost use Rattle.ckpt_model.specs.Text.{text_of, answer_text, flags_text};
 ghost use Rattle.history_reader.specs.Pieces.{mark_text};
-ghost use Rattle.history_reader.specs.Spelled.{IsSpelled};
+ghost use Rattle.history_reader.specs.Spelled.{IsSpelled, Fits, FitsHalt, FitsListRow, FitsNote, FitsScavenged};
 ghost use Rattle.history_reader.specs.Reading.{Gives, read_changing_note, read_counted_halt, read_halt, read_halt_word, read_list, read_list_fault, read_list_note, read_marked, read_note, read_scavenge, read_scavenged, read_state};
 
 use crate::cuts::{cut, cut_at_equals, is, is_empty};
@@ -22,6 +23,7 @@ use std::alloc::Global;
 #[tactic(auto, unfolding(crate::specs::Reading::read_scavenged))]
 pub(crate) fn scavenged_of(rest: &[u8]) -> Option<ScavAnswer>
     ensures text { IfSome result (λ answer. scavenged_text answer ≡ codes "scavenged " ++ rest.now) }
+    ensures fits { IfSome result (λ answer. FitsScavenged answer) }
     ensures gives { result ≡ read_scavenged rest.now }
 {
     match dataset(rest) {
@@ -35,6 +37,7 @@ pub(crate) fn scavenged_of(rest: &[u8]) -> Option<ScavAnswer>
 #[tactic(auto, unfolding(crate::specs::Reading::read_scavenge))]
 pub(crate) fn scavenge_of(rest: &[u8]) -> Option<ScavAnswer>
     ensures text { IfSome result (λ answer. scavenged_text answer ≡ codes "scavenge " ++ rest.now) }
+    ensures fits { IfSome result (λ answer. FitsScavenged answer) }
     ensures gives { result ≡ read_scavenge rest.now }
 {
     if is(rest, b"cut") {
@@ -56,6 +59,7 @@ pub(crate) fn scavenge_of(rest: &[u8]) -> Option<ScavAnswer>
 #[tactic(auto, unfolding(crate::specs::Reading::read_note))]
 pub(crate) fn note_of(alloc: Global, rest: &[u8]) -> Result<IndexNote, Fault>
     ensures text { IfOk result (λ note. note_text note ≡ codes "index " ++ rest.now) }
+    ensures fits { IfOk result (λ note. FitsNote note) }
     ensures gives { Gives result (read_note rest.now) }
 {
     let (what, answer) = cut_at_equals(rest).ok_or(Fault::Bad)?;
@@ -69,6 +73,7 @@ pub(crate) fn note_of(alloc: Global, rest: &[u8]) -> Result<IndexNote, Fault>
 #[tactic(auto, unfolding(crate::specs::Reading::read_changing_note))]
 fn changing_note_of(what: &[u8], answer: &[u8]) -> Option<IndexNote>
     ensures text { IfSome result (λ note. note_text note ≡ codes "index " ++ (what.now ++ (codes " = " ++ answer.now))) }
+    ensures fits { IfSome result (λ note. FitsNote note) }
     ensures gives { result ≡ read_changing_note what.now answer.now }
 {
     let (word, id) = cut(what, b' ')?;
@@ -86,6 +91,7 @@ fn changing_note_of(what: &[u8], answer: &[u8]) -> Option<IndexNote>
 #[tactic(auto, unfolding(crate::specs::Reading::read_list_note))]
 fn list_note_of(alloc: Global, rest: &[u8]) -> Result<IndexNote, Fault>
     ensures text { IfOk result (λ note. note_text note ≡ codes "index list = " ++ rest.now) }
+    ensures fits { IfOk result (λ note. FitsNote note) }
     ensures gives { Gives result (read_list_note rest.now) }
 {
     match list_fault_of(rest) {
@@ -100,6 +106,7 @@ fn list_note_of(alloc: Global, rest: &[u8]) -> Result<IndexNote, Fault>
 #[tactic(auto, unfolding(crate::specs::Reading::read_list_fault))]
 fn list_fault_of(rest: &[u8]) -> Option<u64>
     ensures text { IfSome result (λ count. note_text (IndexNote.ListFault count) ≡ codes "index list = " ++ rest.now) }
+    ensures fits { IfSome result (λ count. count < 2 ^ 64) }
     ensures gives { result ≡ read_list_fault rest.now }
 {
     let (word, rest) = cut(rest, b' ')?;
@@ -113,6 +120,7 @@ fn list_fault_of(rest: &[u8]) -> Option<u64>
 #[tactic(auto, unfolding(crate::specs::Reading::read_list))]
 fn list_of(alloc: Global, bytes: &[u8]) -> Result<Items<ListRow>, Fault>
     ensures text { IfOk result (λ rows. bytes.now ≡ list_text rows) }
+    ensures fits { IfOk result (λ rows. AllByRecursion FitsListRow rows) }
     ensures gives { Gives result (read_list bytes.now) }
 {
     if is(bytes, b"none") {
@@ -124,10 +132,13 @@ fn list_of(alloc: Global, bytes: &[u8]) -> Result<Items<ListRow>, Fault>
 impl Row for ListRow {
     ghost use Rattle.ckpt_model.specs.Text.{list_word};
     ghost use Rattle.history_reader.specs.Reading.{read_list_row};
+    ghost use Rattle.history_reader.specs.Spelled.{FitsListRow};
 
     ghost text = { list_word };
 
     ghost read = { read_list_row };
+
+    ghost fits = { FitsListRow };
 
     #[tactic(auto, unfolding(crate::specs::Reading::read_list_row))]
     fn of(alloc: Global, word: &[u8]) -> Result<ListRow, Fault> {
@@ -180,6 +191,7 @@ pub(crate) fn state_of(word: &[u8]) -> Option<bool>
 pub(crate) fn halt_of(alloc: Global, rest: &[u8]) -> Result<Event, Fault>
     ensures text { IfOk result (λ event. text_of event ≡ codes "halt " ++ rest.now) }
     ensures spelled { IfOk result (λ event. IsSpelled event) }
+    ensures fits { IfOk result (λ event. Fits event) }
     ensures gives { Gives result (read_halt rest.now) }
 {
     let (words, answer) = cut_at_equals(rest).ok_or(Fault::Bad)?;
@@ -193,6 +205,7 @@ pub(crate) fn halt_of(alloc: Global, rest: &[u8]) -> Result<Event, Fault>
 #[tactic(auto, unfolding(crate::specs::Reading::read_halt_word))]
 fn halt_word_of(alloc: Global, words: &[u8]) -> Result<Option<HaltWord>, Fault>
     ensures text { IfOk result (λ halt. halt_text halt ≡ words.now) }
+    ensures fits { IfOk result (λ halt. FitsHalt halt) }
     ensures gives { Gives result (read_halt_word words.now) }
 {
     if is(words, b"clear") {
@@ -211,6 +224,7 @@ fn halt_word_of(alloc: Global, words: &[u8]) -> Result<Option<HaltWord>, Fault>
 #[tactic(auto, unfolding(crate::specs::Reading::read_counted_halt))]
 fn counted_halt_of(word: &[u8], value: &[u8]) -> Option<HaltWord>
     ensures text { IfSome result (λ halt. halt_text (Some halt) ≡ word.now ++ 32 ∷ value.now) }
+    ensures fits { IfSome result (λ halt. FitsHalt (Some halt)) }
     ensures gives { result ≡ read_counted_halt word.now value.now }
 {
     if is(word, b"checkpoints") {

@@ -1,9 +1,10 @@
 //! Reading the lines of what happens in a run.
 
 ghost use Rattle.std.specs.Prelude.{◌≡◌, ◌∷◌, ◌++◌, IfOk, IfSome, codes};
+ghost use Rattle.std.specs.List.{AllByRecursion};
 ghost use Rattle.ckpt_model.specs.Text.{text_of, id_text, found_word, entry_word};
 ghost use Rattle.history_reader.specs.Pieces.{each_after, each_before};
-ghost use Rattle.history_reader.specs.Spelled.{IsSpelled};
+ghost use Rattle.history_reader.specs.Spelled.{IsSpelled, Fits, FitsEntryRow, FitsFoundRow, FitsId};
 ghost use Rattle.history_reader.specs.Reading.{Gives, dataset_event, read_call, read_decided, read_event, read_found, read_giving_up, read_index, read_kept, read_local, read_run, read_short, read_taken_reply, read_worded};
 
 use crate::cuts::{cut, cut_at_equals, cut_last, is, is_empty};
@@ -23,6 +24,7 @@ use std::alloc::Global;
 pub(crate) fn event_of(alloc: Global, line: &[u8]) -> Result<Event, Fault>
     ensures text { IfOk result (λ event. text_of event ≡ line.now) }
     ensures spelled { IfOk result (λ event. IsSpelled event) }
+    ensures fits { IfOk result (λ event. Fits event) }
     ensures gives { Gives result (read_event line.now) }
 {
     let (word, rest) = cut(line, b' ').ok_or(Fault::Bad)?;
@@ -33,6 +35,7 @@ pub(crate) fn event_of(alloc: Global, line: &[u8]) -> Result<Event, Fault>
 fn worded_event_of(alloc: Global, word: &[u8], rest: &[u8]) -> Result<Event, Fault>
     ensures text { IfOk result (λ event. text_of event ≡ word.now ++ 32 ∷ rest.now) }
     ensures spelled { IfOk result (λ event. IsSpelled event) }
+    ensures fits { IfOk result (λ event. Fits event) }
     ensures gives { Gives result (read_worded word.now rest.now) }
 {
     if is(word, b"call") {
@@ -62,6 +65,7 @@ fn worded_event_of(alloc: Global, word: &[u8], rest: &[u8]) -> Result<Event, Fau
 fn short_event_of(word: &[u8], rest: &[u8]) -> Option<Event>
     ensures text { IfSome result (λ event. text_of event ≡ word.now ++ 32 ∷ rest.now) }
     ensures spelled { IfSome result (λ event. IsSpelled event) }
+    ensures fits { IfSome result (λ event. Fits event) }
     ensures gives { result ≡ read_short word.now rest.now }
 {
     if is(word, b"time") {
@@ -94,6 +98,7 @@ fn short_event_of(word: &[u8], rest: &[u8]) -> Option<Event>
 fn dataset_event_of(word: &[u8], which: DataId) -> Option<Event>
     ensures text { IfSome result (λ event. text_of event ≡ word.now ++ 32 ∷ id_text which) }
     ensures spelled { IfSome result (λ event. IsSpelled event) }
+    ensures fits { FitsId which → IfSome result (λ event. Fits event) }
     ensures gives { result ≡ dataset_event word.now which }
 {
     if is(word, b"sealing") {
@@ -135,6 +140,7 @@ fn dataset_event_of(word: &[u8], which: DataId) -> Option<Event>
 fn run_of(alloc: Global, rest: &[u8]) -> Result<Event, Fault>
     ensures text { IfOk result (λ event. text_of event ≡ codes "run " ++ rest.now) }
     ensures spelled { IfOk result (λ event. IsSpelled event) }
+    ensures fits { IfOk result (λ event. Fits event) }
     ensures gives { Gives result (read_run rest.now) }
 {
     let (run, rest) = cut(rest, b' ').ok_or(Fault::Bad)?;
@@ -153,6 +159,7 @@ fn run_of(alloc: Global, rest: &[u8]) -> Result<Event, Fault>
 fn call_of(alloc: Global, rest: &[u8]) -> Result<Event, Fault>
     ensures text { IfOk result (λ event. text_of event ≡ codes "call " ++ rest.now) }
     ensures spelled { IfOk result (λ event. IsSpelled event) }
+    ensures fits { IfOk result (λ event. Fits event) }
     ensures gives { Gives result (read_call rest.now) }
 {
     let (rank, number, step) = place(rest).ok_or(Fault::Bad)?;
@@ -167,6 +174,7 @@ fn call_of(alloc: Global, rest: &[u8]) -> Result<Event, Fault>
 fn taken_reply_of(alloc: Global, rest: &[u8]) -> Result<Event, Fault>
     ensures text { IfOk result (λ event. text_of event ≡ codes "reply " ++ rest.now) }
     ensures spelled { IfOk result (λ event. IsSpelled event) }
+    ensures fits { IfOk result (λ event. Fits event) }
     ensures gives { Gives result (read_taken_reply rest.now) }
 {
     let (rank, number, answer) = place(rest).ok_or(Fault::Bad)?;
@@ -181,6 +189,7 @@ fn taken_reply_of(alloc: Global, rest: &[u8]) -> Result<Event, Fault>
 fn local_of(alloc: Global, rest: &[u8]) -> Result<Event, Fault>
     ensures text { IfOk result (λ event. text_of event ≡ codes "local " ++ rest.now) }
     ensures spelled { IfOk result (λ event. IsSpelled event) }
+    ensures fits { IfOk result (λ event. Fits event) }
     ensures gives { Gives result (read_local rest.now) }
 {
     let (rank, number, rest) = place(rest).ok_or(Fault::Bad)?;
@@ -198,6 +207,7 @@ fn local_of(alloc: Global, rest: &[u8]) -> Result<Event, Fault>
 fn decided_of(alloc: Global, rest: &[u8]) -> Result<Event, Fault>
     ensures text { IfOk result (λ event. text_of event ≡ codes "decided " ++ rest.now) }
     ensures spelled { IfOk result (λ event. IsSpelled event) }
+    ensures fits { IfOk result (λ event. Fits event) }
     ensures gives { Gives result (read_decided rest.now) }
 {
     let (kind, answer) = cut(rest, b' ').ok_or(Fault::Bad)?;
@@ -212,6 +222,7 @@ fn decided_of(alloc: Global, rest: &[u8]) -> Result<Event, Fault>
 fn giving_up_of(rest: &[u8]) -> Option<Event>
     ensures text { IfSome result (λ event. text_of event ≡ codes "givenup " ++ rest.now) }
     ensures spelled { IfSome result (λ event. IsSpelled event) }
+    ensures fits { IfSome result (λ event. Fits event) }
     ensures gives { result ≡ read_giving_up rest.now }
 {
     let (which, rest) = cut(rest, b' ')?;
@@ -226,6 +237,7 @@ fn giving_up_of(rest: &[u8]) -> Option<Event>
 fn found_of(alloc: Global, rest: &[u8]) -> Result<Event, Fault>
     ensures text { IfOk result (λ event. text_of event ≡ codes "found " ++ rest.now) }
     ensures spelled { IfOk result (λ event. IsSpelled event) }
+    ensures fits { IfOk result (λ event. Fits event) }
     ensures gives { Gives result (read_found rest.now) }
 {
     let Some((front, behind)) = cut(rest, b'|') else {
@@ -240,6 +252,7 @@ fn found_of(alloc: Global, rest: &[u8]) -> Result<Event, Fault>
 #[tactic(auto, unfolding(crate::specs::Reading::read_kept))]
 fn kept_rows_of(alloc: Global, bytes: &[u8]) -> Result<Items<FoundRow>, Fault>
     ensures text { IfOk result (λ rows. bytes.now ≡ each_before 32 found_word rows) }
+    ensures fits { IfOk result (λ rows. AllByRecursion FitsFoundRow rows) }
     ensures gives { Gives result (read_kept bytes.now) }
 {
     if is_empty(bytes) {
@@ -257,10 +270,13 @@ fn kept_rows_of(alloc: Global, bytes: &[u8]) -> Result<Items<FoundRow>, Fault>
 impl Row for FoundRow {
     ghost use Rattle.ckpt_model.specs.Text.{found_word};
     ghost use Rattle.history_reader.specs.Reading.{read_found_row};
+    ghost use Rattle.history_reader.specs.Spelled.{FitsFoundRow};
 
     ghost text = { found_word };
 
     ghost read = { read_found_row };
+
+    ghost fits = { FitsFoundRow };
 
     #[tactic(auto, unfolding(crate::specs::Reading::read_found_row))]
     fn of(alloc: Global, word: &[u8]) -> Result<FoundRow, Fault> {
@@ -277,6 +293,7 @@ impl Row for FoundRow {
 #[tactic(auto, unfolding(crate::specs::Reading::read_index))]
 fn index_rows_of(alloc: Global, bytes: &[u8]) -> Result<Items<EntryRow>, Fault>
     ensures text { IfOk result (λ rows. bytes.now ≡ each_after 32 entry_word rows) }
+    ensures fits { IfOk result (λ rows. AllByRecursion FitsEntryRow rows) }
     ensures gives { Gives result (read_index bytes.now) }
 {
     if is_empty(bytes) {
@@ -294,10 +311,13 @@ fn index_rows_of(alloc: Global, bytes: &[u8]) -> Result<Items<EntryRow>, Fault>
 impl Row for EntryRow {
     ghost use Rattle.ckpt_model.specs.Text.{entry_word};
     ghost use Rattle.history_reader.specs.Reading.{read_entry_row};
+    ghost use Rattle.history_reader.specs.Spelled.{FitsEntryRow};
 
     ghost text = { entry_word };
 
     ghost read = { read_entry_row };
+
+    ghost fits = { FitsEntryRow };
 
     #[tactic(auto, unfolding(crate::specs::Reading::read_entry_row))]
     fn of(_alloc: Global, word: &[u8]) -> Result<EntryRow, Fault> {

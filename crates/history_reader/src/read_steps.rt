@@ -2,7 +2,7 @@
 
 ghost use Rattle.std.specs.Prelude.{◌≡◌, ◌∷◌, ◌++◌, IfOk, IfSome, codes};
 ghost use Rattle.ckpt_model.specs.Text.{content_text, flags_text, step_text, valid_text};
-ghost use Rattle.history_reader.specs.Spelled.{IsSpelledContent, IsSpelledStep};
+ghost use Rattle.history_reader.specs.Spelled.{IsSpelledContent, IsSpelledStep, FitsContent, FitsStep};
 ghost use Rattle.history_reader.specs.Reading.{Gives, read_bare_step, read_closing_step, read_content, read_fill, read_flags, read_full_step, read_read, read_start, read_step, read_valid, read_write};
 
 use crate::cuts::{cut, is};
@@ -47,6 +47,7 @@ fn valid_of(word: &[u8]) -> Option<bool>
 pub(crate) fn step_of(alloc: Global, bytes: &[u8]) -> Result<Step, Fault>
     ensures text { IfOk result (λ step. bytes.now ≡ step_text step) }
     ensures spelled { IfOk result (λ step. IsSpelledStep step) }
+    ensures fits { IfOk result (λ step. FitsStep step) }
     ensures gives { Gives result (read_step bytes.now) }
 {
     match cut(bytes, b' ') {
@@ -59,6 +60,7 @@ pub(crate) fn step_of(alloc: Global, bytes: &[u8]) -> Result<Step, Fault>
 fn bare_step_of(word: &[u8]) -> Option<Step>
     ensures text { IfSome result (λ step. word.now ≡ step_text step) }
     ensures spelled { IfSome result (λ step. IsSpelledStep step) }
+    ensures fits { IfSome result (λ step. FitsStep step) }
     ensures gives { result ≡ read_bare_step word.now }
 {
     if is(word, b"need") {
@@ -82,6 +84,7 @@ fn bare_step_of(word: &[u8]) -> Option<Step>
 fn full_step_of(alloc: Global, word: &[u8], rest: &[u8]) -> Result<Step, Fault>
     ensures text { IfOk result (λ step. step_text step ≡ word.now ++ 32 ∷ rest.now) }
     ensures spelled { IfOk result (λ step. IsSpelledStep step) }
+    ensures fits { IfOk result (λ step. FitsStep step) }
     ensures gives { Gives result (read_full_step word.now rest.now) }
 {
     if is(word, b"start") {
@@ -103,6 +106,7 @@ fn full_step_of(alloc: Global, word: &[u8], rest: &[u8]) -> Result<Step, Fault>
 fn closing_step_of(word: &[u8], rest: &[u8]) -> Option<Step>
     ensures text { IfSome result (λ step. step_text step ≡ word.now ++ 32 ∷ rest.now) }
     ensures spelled { IfSome result (λ step. IsSpelledStep step) }
+    ensures fits { IfSome result (λ step. FitsStep step) }
     ensures gives { result ≡ read_closing_step word.now rest.now }
 {
     if is(word, b"complete") {
@@ -122,6 +126,7 @@ fn closing_step_of(word: &[u8], rest: &[u8]) -> Option<Step>
 fn start_of(alloc: Global, rest: &[u8]) -> Result<Step, Fault>
     ensures text { IfOk result (λ step. step_text step ≡ codes "start " ++ rest.now) }
     ensures spelled { IfOk result (λ step. IsSpelledStep step) }
+    ensures fits { IfOk result (λ step. FitsStep step) }
     ensures gives { Gives result (read_start rest.now) }
 {
     let (name, flags) = cut(rest, b' ').ok_or(Fault::Bad)?;
@@ -136,6 +141,7 @@ fn start_of(alloc: Global, rest: &[u8]) -> Result<Step, Fault>
 fn write_of(alloc: Global, rest: &[u8]) -> Result<Step, Fault>
     ensures text { IfOk result (λ step. step_text step ≡ codes "write " ++ rest.now) }
     ensures spelled { IfOk result (λ step. IsSpelledStep step) }
+    ensures fits { IfOk result (λ step. FitsStep step) }
     ensures gives { Gives result (read_write rest.now) }
 {
     let (name, rest) = cut(rest, b' ').ok_or(Fault::Bad)?;
@@ -153,6 +159,7 @@ fn write_of(alloc: Global, rest: &[u8]) -> Result<Step, Fault>
 fn content_of(alloc: Global, bytes: &[u8]) -> Result<Content, Fault>
     ensures text { IfOk result (λ content. bytes.now ≡ content_text content) }
     ensures spelled { IfOk result (λ content. IsSpelledContent content) }
+    ensures fits { IfOk result (λ content. FitsContent content) }
     ensures gives { Gives result (read_content bytes.now) }
 {
     let (word, rest) = cut(bytes, b' ').ok_or(Fault::Bad)?;
@@ -171,6 +178,7 @@ fn content_of(alloc: Global, bytes: &[u8]) -> Result<Content, Fault>
 fn fill_of(rest: &[u8]) -> Option<Content>
     ensures text { IfSome result (λ content. content_text content ≡ codes "fill " ++ rest.now) }
     ensures spelled { IfSome result (λ content. IsSpelledContent content) }
+    ensures fits { IfSome result (λ content. FitsContent content) }
     ensures gives { result ≡ read_fill rest.now }
 {
     let (seed, len) = cut(rest, b' ')?;
@@ -184,6 +192,7 @@ fn fill_of(rest: &[u8]) -> Option<Content>
 fn read_step_of(alloc: Global, rest: &[u8]) -> Result<Step, Fault>
     ensures text { IfOk result (λ step. step_text step ≡ codes "read " ++ rest.now) }
     ensures spelled { IfOk result (λ step. IsSpelledStep step) }
+    ensures fits { IfOk result (λ step. FitsStep step) }
     ensures gives { Gives result (read_read rest.now) }
 {
     let (name, rest) = cut(rest, b' ').ok_or(Fault::Bad)?;

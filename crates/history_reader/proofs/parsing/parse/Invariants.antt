@@ -1,6 +1,6 @@
 use Rattle.std.proofs.Common.{◌≡◌, ◌++◌, All, length}
 use Rattle.ckpt_model.specs.Text.{history_text}
-use Rattle.history_reader.specs.Spelled.{IsSpelled}
+use Rattle.history_reader.specs.Spelled.{IsPrintable}
 use Rattle.history_reader.proofs.Lines.{Follows}
 use Rattle.history_reader.proofs.parsing.parse.Given as goal
 
@@ -8,7 +8,7 @@ use Rattle.history_reader.proofs.parsing.parse.Given as goal
 abbrev pub invariant-loop-rest : goal.invariant-loop-rest
 invariant-loop-rest l = record {
   text : l.bytes ≡ history_text l.history.events ++ l.rest;
-  spelled : All IsSpelled l.history.events;
+  printable : All IsPrintable l.history.events;
   follows : Follows l.bytes l.history.events l.rest;
 }
 

@@ -1,6 +1,6 @@
-use Rattle.std.proofs.Common.{ap, refl, sym, ◌∙◌, List, ℕ}
+use Rattle.std.proofs.Common.{◌<◌, ◌^◌, arith, ap, refl, sym, ◌∙◌, List, ℕ}
 use Rattle.history_reader.specs.Reading.{read_pairs}
-use Rattle.history_reader.proofs.RowLaws.{with_front, hex_moved, pairs_go_on, pairs_stop, pairs_all, pairs_odd}
+use Rattle.history_reader.proofs.RowLaws.{fits_push, with_front, hex_moved, pairs_go_on, pairs_stop, pairs_all, pairs_odd}
 use Rattle.history_reader.proofs.read_bytes.pairs_of.Goals as goal
 
 pub returns-in_default-byte_of-clause-gives : goal.returns-in_default-byte_of-clause-gives
@@ -32,6 +32,7 @@ loop-high-preserved c = record {
       c.in-Some.ensures.some
       c.in-Some-byte_of.ensures.text
       c.in_ok-push.ensures.items;
+  fits = fits_push (λ b. b < 2 ^ 8) c.loop-high.bytes.items c.in-Some-byte_of.byte c.push.new.self.items c.loop-high.invariant.fits (omega arith) c.in_ok-push.ensures.items;
   gives =
       ap (λ (bytes : List ℕ). with_front bytes (read_pairs c.in-Some.others.now)) c.in_ok-push.ensures.items
       ∙ pairs_go_on

@@ -1,5 +1,6 @@
 use Rattle.std.proofs.Common.{◌≡◌, ◌++◌, length}
 use Rattle.ckpt_model.specs.Text.{hex_text}
+use Rattle.history_reader.specs.Spelled.{FitsBytes}
 use Rattle.history_reader.specs.Reading.{read_pairs}
 use Rattle.history_reader.proofs.RowLaws.{with_front}
 use Rattle.history_reader.proofs.read_bytes.pairs_of.Given as goal
@@ -8,6 +9,7 @@ use Rattle.history_reader.proofs.read_bytes.pairs_of.Given as goal
 abbrev pub invariant-loop-high : goal.invariant-loop-high
 invariant-loop-high l = record {
   text : l.digits ≡ hex_text l.bytes.items ++ l.rest;
+  fits : FitsBytes l.bytes.items;
   gives : with_front l.bytes.items (read_pairs l.rest) ≡ read_pairs l.digits;
 }
 

@@ -2,7 +2,7 @@ use Rattle.std.proofs.Common.{Global, Vec, List, ◌++◌, ap, sym, ◌∙◌}
 use Rattle.std.proofs.lemmas.Result.{err_from_is_err_and}
 use Rattle.history_reader.specs.Pieces.{each_before}
 use Rattle.history_reader.specs.Reading.{each_read, parts}
-use Rattle.history_reader.proofs.RowLaws.{goes_on, ends, ends_last, all_read, joined, moved}
+use Rattle.history_reader.proofs.RowLaws.{goes_on, ends, ends_last, fits_push, all_read, joined, moved}
 use Rattle.history_reader.proofs.rows.rows_of.Goals as goal
 
 pub returns-in_err-of-clause-gives : goal.returns-in_err-of-clause-gives
@@ -40,6 +40,7 @@ loop-word-preserved g c = record {
       c.in-Some.ensures.text
       c.in_ok-of.ensures.text
       ∙ ap (λ (rows : List g.row.R.Denot). each_before c.args.separator g.R.Row.text rows ++ c.in-Some.others.now) (sym c.in_ok-push.ensures.items);
+  fits = fits_push g.R.Row.fits c.loop-word.rows.items c.in_ok-of.field-0 c.push.new.self.items c.loop-word.invariant.fits c.in_ok-of.ensures.fits c.in_ok-push.ensures.items;
   gives = rw c.in_ok-push.ensures.items (
       goes_on
       g.R.Row.read
@@ -72,6 +73,9 @@ returns-in_err-last-clause-gives g c =
     c.in_err-last.ensures.gives
     c.loop-word.invariant.gives
     )
+
+pub returns-clause-fits : goal.returns-clause-fits
+returns-clause-fits g c = fits_push g.R.Row.fits c.loop-word.rows.items c.in_ok-last.last c.push-2.new.self.items c.loop-word.invariant.fits c.in_ok-last.ensures.fits c.in_ok-push-2.ensures.items
 
 pub returns-clause-text : goal.returns-clause-text
 returns-clause-text g c =
