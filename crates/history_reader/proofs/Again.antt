@@ -1,10 +1,10 @@
 -- What was printed is read again: numbers, names, answers and causes.
-use Rattle.std.proofs.Common.{◌≡◌, ℕ, zero, suc, ◌+◌, ◌*◌, ◌/◌, ◌%◌, ◌<◌, ◌≤◌, ◌^◌, ◌&&◌, ◌==◌, nat_le, not, cond, Bool, true, false, List, [], ◌∷◌, ◌++◌, map, length, Option, Some, None, refl, sym, ap, subst, ◌∙◌, arith, bytes_eq, decimal, codes}
-use Rattle.std.specs.Prelude.{IsTrue, option_and_then, option_map}
+use Rattle.std.proofs.Common.{◌≡◌, ℕ, zero, suc, ◌+◌, ◌*◌, ◌/◌, ◌%◌, ◌<◌, ◌≤◌, ◌^◌, nat_le, Bool, true, false, List, [], ◌∷◌, ◌++◌, map, length, Option, Some, None, refl, ap, ◌∙◌, arith, bytes_eq, decimal, codes}
+use Rattle.std.specs.Prelude.{IsTrue}
 use Rattle.std.specs.Fmt.{digits}
-use Rattle.std.specs.List.{AllByRecursion, join_with_byte, list_all}
+use Rattle.std.specs.List.{AllByRecursion, join_with_byte}
 use Rattle.std.proofs.lemmas.Bool.Decides.{nat_tests}
-use Rattle.scr_base.specs.Words.{is_name, is_word, is_name_byte}
+use Rattle.scr_base.specs.Words.{is_name, is_word}
 use Rattle.scr_base.specs.declared.shape.DataId.{DataId}
 use Rattle.scr_base.specs.declared.shape.Flags.{Flags}
 use Rattle.scr_base.specs.declared.shape.Flags.TheVariants.{Ckpt, Output, Both}
@@ -24,13 +24,13 @@ use Rattle.ckpt_model.specs.declared.event.GivenUpCause.{GivenUpCause}
 use Rattle.ckpt_model.specs.declared.event.GivenUpCause.TheVariants as given_up
 use Rattle.ckpt_model.specs.declared.event.CommandAnswer.{CommandAnswer}
 use Rattle.ckpt_model.specs.declared.event.CommandAnswer.TheVariants as answer
-use Rattle.ckpt_model.specs.Text.{answer_text, bytes_text, cause_text, given_up_text, device_text, flags_text, full_text, hex_digit, hex_text, id_text, kind_text, lost_text, phase_text, reason_text, refusal_text, reply_text, state_text, valid_text}
+use Rattle.ckpt_model.specs.Text.{answer_text, bytes_text, cause_text, given_up_text, flags_text, hex_digit, hex_text, id_text, kind_text, lost_text, phase_text, reason_text, refusal_text, reply_text, state_text, valid_text}
 use Rattle.history_reader.specs.Part.{IsPart, IsPartOf}
-use Rattle.history_reader.specs.Reading.{◌>>=◌, either_way, cut_at, is_nothing, parts, each_read, read_number, read_below, read_byte, read_id, read_place, read_device, read_full, read_part, read_name, read_word, read_digit, read_pair, read_pairs, read_hex, read_bytes, read_lost, read_flags, read_valid, read_state, read_phase, read_reason, read_kind, read_bare_refusal, read_full_refusal, read_bare_reply, read_routed, read_worded_reply, read_full_reply, read_reply, read_prefix_device, read_prefix_full, read_bare_answer, read_full_answer, read_answer, read_bare_cause, read_full_cause, read_cause, read_given_up}
+use Rattle.history_reader.specs.Reading.{◌>>=◌, cut_at, parts, each_read, read_number, read_below, read_byte, read_id, read_place, read_device, read_full, read_part, read_name, read_word, read_digit, read_pair, read_pairs, read_hex, read_bytes, read_lost, read_flags, read_valid, read_state, read_phase, read_reason, read_kind, read_bare_refusal, read_full_refusal, read_bare_reply, read_routed, read_worded_reply, read_full_reply, read_reply, read_prefix_device, read_prefix_full, read_bare_answer, read_full_answer, read_answer, read_bare_cause, read_full_cause, read_cause, read_given_up}
 use Rattle.history_reader.specs.Spelled.{IsSpelledReply, FitsId, FitsBytes, FitsPlace, FitsDevice, FitsFull, FitsRefusal, FitsReply, FitsAnswer, FitsCause, FitsGivenUp}
 use Rattle.history_reader.proofs.CutLaws.{cut_here, cut_nowhere, lacks, parts_joined}
 use Rattle.history_reader.proofs.NumberLaws.{are_same, below_again, number_again}
-use Rattle.history_reader.proofs.Classes.{decimal_lacks, each_lacks, id_is, id_lacks, name_lacks}
+use Rattle.history_reader.proofs.Classes.{decimal_lacks, each_lacks, id_is, id_lacks}
 
 -- where reading a literal gives nothing and reading a text gives something, the text isn't the literal
 pub not_literal : {X : Type 0} (read : List ℕ → Option X) (literal text : List ℕ) (x : X) → read literal ≡ None → read text ≡ Some x → bytes_eq text literal ≡ false

@@ -1,7 +1,6 @@
 -- What was printed is read again: events, and the lines of a history.
-use Rattle.std.proofs.Common.{◌≡◌, ℕ, ◌<◌, ◌^◌, ◌&&◌, ◌==◌, not, Bool, true, false, List, [], ◌∷◌, ◌++◌, map, Option, Some, None, refl, sym, ap, ◌∙◌, append_assoc, arith, length, decimal, codes}
-use Rattle.std.specs.Prelude.{option_and_then, option_map}
-use Rattle.std.specs.List.{AllByRecursion, join_with_byte, list_all}
+use Rattle.std.proofs.Common.{◌≡◌, ℕ, ◌<◌, ◌^◌, ◌==◌, not, true, List, [], ◌∷◌, ◌++◌, map, Option, Some, None, refl, sym, ap, ◌∙◌, append_assoc, arith, length, decimal, codes}
+use Rattle.std.specs.List.{AllByRecursion, join_with_byte}
 use Rattle.scr_base.specs.declared.shape.DataId.{DataId}
 use Rattle.scr_base.specs.declared.answers.Reply.{Reply}
 use Rattle.scr_base.specs.declared.content.HaltWord.{HaltWord}
@@ -23,10 +22,10 @@ use Rattle.ckpt_model.specs.declared.event.Event.{Event}
 use Rattle.ckpt_model.specs.declared.event.Event.TheVariants as event
 use Rattle.ckpt_model.specs.Text.{text_of, answer_text, cause_text, device_text, entry_word, found_word, full_text, given_up_text, halt_text, id_text, kind_text, list_text, note_text, reply_text, scavenged_text, step_text}
 use Rattle.history_reader.specs.Pieces.{each_after, each_before}
-use Rattle.history_reader.specs.Reading.{◌>>=◌, either_way, cut_at, cut_last_at, around_equals, is_nothing, parts, each_read, read_number, read_below, read_byte, read_id, read_place, read_device, read_name, read_kind, read_reply, read_answer, read_prefix_device, read_prefix_full, read_cause, read_given_up, read_step, read_kept, read_index, read_list, read_list_fault, read_list_note, read_changing_note, read_note, read_counted_halt, read_halt_word, read_halt, read_scavenged, read_scavenge, read_run, read_found, read_call, read_taken_reply, read_local, read_decided, read_giving_up, dataset_event, read_short, read_worded, read_event, read_line}
+use Rattle.history_reader.specs.Reading.{◌>>=◌, cut_at, around_equals, read_id, read_given_up, read_list_fault, read_list_note, read_changing_note, read_note, read_counted_halt, read_halt_word, read_halt, read_scavenged, read_scavenge, read_run, read_found, read_call, read_taken_reply, read_local, read_decided, read_giving_up, dataset_event, read_short, read_worded, read_event, read_line}
 use Rattle.history_reader.specs.Spelled.{IsSpelled, IsSpelledReply, IsSpelledStep, Fits, FitsId, FitsBytes, FitsPlace, FitsStep, FitsReply, FitsAnswer, FitsGivenUp, FitsFoundRow, FitsEntryRow, FitsListRow, FitsHalt, FitsNote, FitsScavenged}
 use Rattle.history_reader.proofs.Joins.{found_is}
-use Rattle.history_reader.proofs.CutLaws.{cut_here, cut_last_here, cut_nowhere, lacks}
+use Rattle.history_reader.proofs.CutLaws.{cut_here, cut_last_here, lacks}
 use Rattle.history_reader.proofs.NumberLaws.{number_again}
 use Rattle.history_reader.proofs.Classes.{decimal_lacks, id_lacks}
 use Rattle.history_reader.proofs.Again.{answer_again, byte_again, cause_again, device_again, full_again, id_again, kind_again, kind_lacks, medium_again, name_again, numbers_again, place_again, prefix_device_again, prefix_full_again, reply_again}

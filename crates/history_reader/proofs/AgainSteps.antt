@@ -1,10 +1,8 @@
 -- What was printed is read again: steps and rows.
-use Rattle.std.proofs.Common.{◌≡◌, ℕ, ◌<◌, ◌^◌, ◌==◌, not, Bool, true, false, List, [], ◌∷◌, ◌++◌, map, Option, Some, None, refl, sym, ap, ◌∙◌, arith, bytes_eq, decimal, codes, append_assoc}
-use Rattle.std.specs.Prelude.{IsTrue, option_and_then, option_map}
-use Rattle.std.specs.List.{AllByRecursion, join_with_byte, list_all}
-use Rattle.std.proofs.lemmas.List.{append-nil}
-use Rattle.scr_base.specs.Words.{is_name, is_word}
-use Rattle.scr_base.specs.declared.shape.DataId.{DataId}
+use Rattle.std.proofs.Common.{◌≡◌, ℕ, ◌<◌, ◌^◌, ◌==◌, not, Bool, true, false, List, [], ◌∷◌, ◌++◌, map, Some, None, refl, ap, ◌∙◌, arith, decimal, codes, append_assoc}
+use Rattle.std.specs.Prelude.{IsTrue}
+use Rattle.std.specs.List.{AllByRecursion, join_with_byte}
+use Rattle.scr_base.specs.Words.{is_word}
 use Rattle.scr_base.specs.declared.shape.Flags.{Flags}
 use Rattle.scr_base.specs.declared.shape.Flags.TheVariants.{Ckpt, Output, Both}
 use Rattle.scr_base.specs.declared.content.Content.{Content}
@@ -16,7 +14,7 @@ use Rattle.ckpt_model.specs.declared.event.FoundRow.{FoundRow}
 use Rattle.ckpt_model.specs.declared.event.EntryRow.{EntryRow}
 use Rattle.ckpt_model.specs.Text.{content_text, entry_word, flags_text, found_word, hex_text, id_text, list_text, list_word, lost_text, state_text, step_text, valid_text}
 use Rattle.history_reader.specs.Pieces.{each_after, each_before, mark_text}
-use Rattle.history_reader.specs.Reading.{◌>>=◌, cut_at, cut_last_at, is_nothing, parts, each_read, read_below, read_byte, read_id, read_name, read_word, read_hex, read_lost, read_flags, read_valid, read_state, read_fill, read_content, read_start, read_write, read_read, read_bare_step, read_closing_step, read_full_step, read_step, read_found_row, read_entry_row, read_marked, read_list_row, read_kept, read_index, read_list, read_list_fault}
+use Rattle.history_reader.specs.Reading.{cut_at, is_nothing, parts, each_read, read_flags, read_fill, read_content, read_start, read_write, read_read, read_bare_step, read_closing_step, read_full_step, read_step, read_found_row, read_entry_row, read_marked, read_list_row, read_kept, read_index, read_list, read_list_fault}
 use Rattle.history_reader.specs.Spelled.{IsSpelledContent, IsSpelledStep, FitsContent, FitsStep, FitsFoundRow, FitsEntryRow, FitsListRow}
 use Rattle.history_reader.proofs.Wholes.{after_is_joined, before_is_joined}
 use Rattle.history_reader.proofs.CutLaws.{cut_here, cut_last_here, cut_nowhere, lacks}

@@ -1,5 +1,5 @@
 -- Which bytes the pieces of a line have, and which they lack.
-use Rattle.std.proofs.Common.{◌≡◌, ℕ, zero, suc, nat_le, length, ◌≤◌, ◌+◌, ◌/◌, ◌%◌, ◌<◌, ◌^◌, ◌&&◌, ◌||◌, ◌==◌, not, Bool, true, false, List, [], ◌∷◌, ◌++◌, map, refl, sym, ap, ◌∙◌, append_assoc, arith, decimal, codes}
+use Rattle.std.proofs.Common.{◌≡◌, ℕ, zero, suc, nat_le, length, ◌≤◌, ◌+◌, ◌/◌, ◌%◌, ◌<◌, ◌^◌, ◌&&◌, ◌||◌, ◌==◌, not, Bool, true, false, List, [], ◌∷◌, ◌++◌, map, refl, ap, ◌∙◌, append_assoc, arith, decimal}
 use Rattle.std.specs.Prelude.{IsTrue}
 use Rattle.std.specs.List.{AllByRecursion, join_with_byte, list_all}
 use Rattle.std.proofs.lemmas.Bool.Decides.{nat_tests}

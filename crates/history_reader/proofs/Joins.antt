@@ -2,11 +2,10 @@
 use Rattle.std.proofs.Common.{◌≡◌, ℕ, List, [], ◌∷◌, ◌++◌, map, refl, ap, sym, ◌∙◌, append_assoc, codes}
 use Rattle.std.proofs.lemmas.List.{append-nil}
 use Rattle.std.specs.List.{join_with_byte}
-use Rattle.scr_base.specs.declared.content.ListRow.{ListRow}
 use Rattle.ckpt_model.specs.declared.event.FoundRow.{FoundRow}
 use Rattle.ckpt_model.specs.declared.event.EntryRow.{EntryRow}
 use Rattle.ckpt_model.specs.declared.event.Event.TheVariants as event
-use Rattle.ckpt_model.specs.Text.{text_of, found_word, entry_word, list_text, list_word}
+use Rattle.ckpt_model.specs.Text.{text_of, found_word, entry_word}
 use Rattle.history_reader.specs.Pieces.{each_after, each_before}
 
 pub joined_is : {X : Type 0} (separator : ℕ) (text : X → List ℕ) (front : List ℕ) (xs : List X) → join_with_byte separator (front ∷ map text xs) ≡ front ++ each_after separator text xs

@@ -1,5 +1,5 @@
 -- A number is read exactly where the bytes are its decimal form.
-use Rattle.std.proofs.Common.{◌≡◌, ◌≢◌, ℕ, ◌<◌, ◌^◌, ◌&&◌, ltb, cond, Bool, true, false, List, Option, Some, None, refl, sym, ap, ◌∙◌, arith, decimal, bytes_eq}
+use Rattle.std.proofs.Common.{◌≡◌, ◌≢◌, ℕ, ◌<◌, ◌^◌, ◌&&◌, ltb, cond, Bool, true, false, List, Some, None, refl, sym, arith, decimal, bytes_eq}
 use Rattle.std.specs.Str.Parse.{digits_value}
 use Rattle.std.proofs.lemmas.Bool.Decides.{nat_tests}
 use Rattle.std.proofs.lemmas.Fmt.{decimal_is_IsNumeral}

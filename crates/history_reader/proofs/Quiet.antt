@@ -1,7 +1,7 @@
 -- No text of an answer has an equals sign, and no text of an event has a line feed.
-use Rattle.std.proofs.Common.{◌≡◌, ℕ, ◌<◌, ◌^◌, ◌&&◌, ◌==◌, not, Bool, true, false, List, [], ◌∷◌, ◌++◌, map, Option, Some, None, refl, sym, ap, ◌∙◌, append_assoc, arith, decimal, codes}
+use Rattle.std.proofs.Common.{◌≡◌, ℕ, ◌<◌, ◌^◌, ◌&&◌, ◌==◌, not, Bool, true, false, List, [], ◌∷◌, ◌++◌, map, Option, Some, None, refl, ap, ◌∙◌, arith, decimal}
 use Rattle.std.specs.Prelude.{IsTrue}
-use Rattle.std.specs.List.{AllByRecursion, flat_map, join_with_byte, list_all}
+use Rattle.std.specs.List.{AllByRecursion, join_with_byte, list_all}
 use Rattle.scr_base.specs.Words.{is_name, is_name_byte, is_word, is_word_byte}
 use Rattle.scr_base.specs.declared.shape.DataId.{DataId}
 use Rattle.scr_base.specs.declared.shape.Flags.{Flags}

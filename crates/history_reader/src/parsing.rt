@@ -13,13 +13,16 @@ use crate::read_runs::event_of;
 use ckpt_model::{Event, History};
 use scr_base::Memory;
 use std::alloc::Global;
+use thiserror::Error;
 
 /// Why a text was not read.
-#[derive(Clone, Copy, Debug, PartialEq, Eq)]
+#[derive(Clone, Copy, Debug, PartialEq, Eq, Error)]
 pub enum HistoryError {
     /// This is the first line that is no event's text; lines are counted from 1.
+    #[error("line {line} is no event's")]
     Bad { line: u64 },
     /// There is no memory for the history.
+    #[error("want of memory")]
     Memory,
 }
 

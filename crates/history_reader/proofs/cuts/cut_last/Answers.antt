@@ -1,4 +1,4 @@
-use Rattle.std.proofs.Common.{ap, arith, sym, rules, List, ◌≡◌, ◌∙◌, Option, None, Bor, ℕ}
+use Rattle.std.proofs.Common.{ap, sym, rules, List, ◌∙◌, Option, Bor, ℕ}
 use Rattle.std.specs.Prelude.{option_map}
 use Rattle.history_reader.proofs.CutLaws.{cut_last_at_place, cut_last_nowhere, lacks_all}
 use Rattle.history_reader.proofs.cuts.cut_last.Goals as goal

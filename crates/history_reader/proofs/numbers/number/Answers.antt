@@ -1,4 +1,4 @@
-use Rattle.std.proofs.Common.{arith, true, List, bytes_eq, ◌≡◌, ℕ, decimal, sym, Ok, Some, subst, ◌∙◌, ap}
+use Rattle.std.proofs.Common.{arith, true, bytes_eq, ◌≡◌, decimal, sym, Ok, subst, ◌∙◌, ap}
 use Rattle.std.specs.Str.{IsUtf8}
 use Rattle.std.proofs.lemmas.Str.{IsUtf8-from_ascii}
 use Rattle.std.proofs.lemmas.Fmt.{IsAscii-decimal, parse-decimal}

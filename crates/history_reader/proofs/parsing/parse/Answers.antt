@@ -1,4 +1,4 @@
-use Rattle.std.proofs.Common.{arith, sym}
+use Rattle.std.proofs.Common.{arith}
 use Rattle.history_reader.proofs.Lines.{all_followed, bad_is, follows_on, not_bad, one_line_more, one_more_printable, only_memory, same_line}
 use Rattle.history_reader.proofs.parsing.parse.Goals as goal
 
