@@ -8,6 +8,7 @@ mod print_runs;
 mod print_steps;
 mod printing;
 
+pub use history_reader::{HistoryError, one_spelling, parse};
 pub use printing::{print, print_event};
 
 #[cfg(test)]

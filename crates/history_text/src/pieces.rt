@@ -1,7 +1,7 @@
 //! The pieces of which each line is made, put at the end of the text so far.
 
 ghost use Rattle.std.specs.Prelude.{◌≡◌, ◌++◌, ◌∷◌, [], ◌<◌, decimal, OnOk};
-ghost use Rattle.history_text.specs.Pieces.{each_after};
+ghost use Rattle.history_reader.specs.Pieces.{each_after};
 ghost use Rattle.ckpt_model.specs.Text.{id_text, hex_text, bytes_text, numbers_joined, lost_text, flags_text, valid_text, device_text, full_text};
 
 use itoa::Buffer;

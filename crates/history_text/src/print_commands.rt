@@ -3,7 +3,8 @@
 ghost use Rattle.std.specs.Prelude.{◌≡◌, ◌++◌, OnOk, decimal, Some};
 ghost use Rattle.ckpt_model.specs.Text.{text_of, halt_text, list_text, list_word, note_text, scavenged_text, state_text};
 ghost use Rattle.ckpt_model.specs.declared.event.Event.TheVariants as event;
-ghost use Rattle.history_text.specs.Pieces.{each_after, mark_text, row_end};
+ghost use Rattle.history_reader.specs.Pieces.{each_after, mark_text};
+ghost use Rattle.history_text.specs.Pieces.{row_end};
 
 use crate::pieces::{put, put_device, put_flags, put_full, put_id, put_number};
 use crate::print_answers::{PREFIX, put_answer};

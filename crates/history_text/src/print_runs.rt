@@ -2,7 +2,7 @@
 
 ghost use Rattle.std.specs.Prelude.{◌≡◌, ◌++◌, ◌∷◌, [], OnOk, decimal};
 ghost use Rattle.ckpt_model.specs.declared.event.Event.TheVariants as event;
-ghost use Rattle.history_text.specs.Pieces.{each_after};
+ghost use Rattle.history_reader.specs.Pieces.{each_after};
 ghost use Rattle.ckpt_model.specs.Text.{text_of, found_word, entry_word, id_text};
 
 use crate::pieces::{put, put_id, put_lost, put_number, put_numbers};

@@ -419,3 +419,64 @@ fn a_history(rt: HostRuntime) -> Result<(), Fail> {
     );
     Ok(())
 }
+
+const FIRST_PATH: &[u8] =
+    b"run 1 at 0\nfound |\ncall 0 1 start a ckpt\ndecided start ok 1.1\nreply 0 1 ok 1.1\nlocal 0 2 route f = ok d.1.1.0.f.0.0\nlocal 0 3 write f 0 text abc = ok\ncall 0 4 complete valid\nsealing 1.1\nsettled 1.1\ndecided complete kept\nreply 0 4 kept\ncall 0 5 end\nstop ended\nrun 2 at 0\nfound 1.1:- |\nmended 1.1\ncall 0 1 have\ndecided have 1.1 a\nreply 0 1 1.1 a\ncall 0 2 restart\ndecided restart ok\nreply 0 2 ok\nlocal 0 3 read f 0 3 = bytes 616263\ncall 0 4 restarted valid\ndecided restarted ok\nreply 0 4 ok\ncall 0 5 end\nstop ended\n";
+
+const EACH_RUN_LINE: &[u8] =
+    b"run 7 at 3,0,12\nemptied 9\nfound 1.1:0+1 2.1:- | 1.1:flushed 3.2:failed\ndiscarding 1.1\ndiscarded 1.1\nmended 1.1\ntime 0\nsealing 2.1\nsettled 2.1\nevicting 2.1\nevicted 2.1\nflushing 2.1\nindexing 2.1\nflushed 2.1\ngivenup 2.1 device 4 9\ngivenup 2.1 full 4 10 12\nfetching 3.1\nfetched 3.1\nfailing 3.1\nfailed 3.1\nstop ended\nstop script\nstop device 3 7\nstop full 32 10 12\nstop runs\nstop command\n";
+
+const EACH_COMMAND_LINE: &[u8] =
+    b"lost 17\nscavenging 4.1\nscavenged 4.1\nscavenged none\nscavenge device 3 7\nscavenge full 32 10 12\nscavenge cut\nindex list = none\nindex list = 1.1/a/flushed/ckpt* 2.1/b/failed/both\nindex list = device 32 5\nindex drop 4 = noentry\nindex current 5 = ok\nhalt clear = ok\nhalt checkpoints 3 = device 32 8\nhalt before 10 = full 32 5 6\nhalt after 11 = ok\nhalt seconds 12 = ok\nhalt reason drained = ok\n";
+
+const EACH_ANSWER: &[u8] =
+    b"reply 2 10 ok\nreply 2 10 yes\nreply 2 10 no\nreply 2 10 yes reason\nreply 2 10 yes checkpoints\nreply 2 10 yes after\nreply 2 10 yes before\nreply 2 10 ok 1.1\nreply 2 10 kept\nreply 2 10 notkept\nreply 2 10 none\nreply 2 10 1.1 a\nreply 2 10 failed\nreply 2 10 ok d.1.1.15.f.7.15\nreply 2 10 bytes -\nreply 2 10 bytes 00af\nreply 2 10 mismatch 5\nreply 2 10 phase idle\nreply 2 10 phase output\nreply 2 10 phase offered\nreply 2 10 phase restart\nreply 2 10 phase final\nreply 2 10 badname\nreply 2 10 nofile\nreply 2 10 limit\nreply 2 10 taken 1.1\nreply 2 10 device 3 7\nreply 2 10 full 3 10 12\n";
+
+const EACH_STEP: &[u8] =
+    b"call 1 3 need\ncall 1 3 start a output\ncall 1 3 start a both\ncall 1 3 complete invalid\ncall 1 3 restarted invalid\ncall 1 3 exit\ncall 1 3 finalize\nlocal 1 3 write = 7 text = = ok\nlocal 1 3 write f 7 hex 0a0b = ok\nlocal 1 3 write f 7 fill 3 99 = limit\nlocal 1 3 read f 5 6 = nofile\ndecided need yes\ndecided exit no\ndecided finalize ok\ndecided end ok\n";
+
+#[test]
+fn texts_read_back(rt: HostRuntime) -> Result<(), Fail> {
+    for (text, lines) in [
+        (b"".as_slice(), 0),
+        (FIRST_PATH, 29),
+        (EACH_RUN_LINE, 26),
+        (EACH_COMMAND_LINE, 18),
+        (EACH_ANSWER, 28),
+        (EACH_STEP, 15),
+    ] {
+        let history = parse(rt.alloc(), text).ok().ok_or("a bad line")?;
+        assert_eq!(rt; history.events().len(), lines);
+        let printed = print(rt.alloc(), &history).ok().ok_or("no memory")?;
+        assert_eq!(rt; printed.list(), text);
+    }
+    Ok(())
+}
+
+#[test]
+fn bad_lines(rt: HostRuntime) {
+    for (text, line) in [
+        (b"lost 07\n".as_slice(), 1),
+        (b"lost 256\n".as_slice(), 1),
+        (b"lost  7\n".as_slice(), 1),
+        (b"lost 7".as_slice(), 1),
+        (b"lost 7\nlost 8".as_slice(), 2),
+        (b"lost 7\n\nlost 8\n".as_slice(), 2),
+        (b"lost 7\nlost 8\nlost x\n".as_slice(), 3),
+        (b"local 0 3 read f 0 1 = bytes 6A\n".as_slice(), 1),
+        (b"local 0 3 read f 0 1 = bytes 6\n".as_slice(), 1),
+        (b"decided have phase done\n".as_slice(), 1),
+        (b"local 0 2 route f = ok d.01.1.0.f.0.0\n".as_slice(), 1),
+        (b"local 0 2 route f = ok d.1.1.16.f.0.0\n".as_slice(), 1),
+        (b"call 1 3 write f 0 hex \n".as_slice(), 1),
+        (b"run 1 at \n".as_slice(), 1),
+        (b"found 1.1: |\n".as_slice(), 1),
+        (b"found |1.1:flushed\n".as_slice(), 1),
+        (b"index list = -\n".as_slice(), 1),
+        (b"scavenge full 31 10 12\n".as_slice(), 1),
+        (b"stop ended \n".as_slice(), 1),
+    ] {
+        let error = parse(rt.alloc(), text).err();
+        assert_eq!(rt; error, Some(HistoryError::Bad { line }), "at {text:?}");
+    }
+}

@@ -1,5 +1,5 @@
 use Rattle.std.proofs.Common.{◌≡◌, ◌++◌, take, decimal}
-use Rattle.history_text.specs.Pieces.{each_after}
+use Rattle.history_reader.specs.Pieces.{each_after}
 use Rattle.history_text.proofs.pieces.put_more_numbers.Given as goal
 
 abbrev pub invariant-loop-number : goal.invariant-loop-number

@@ -1,8 +1,9 @@
 use Rattle.std.proofs.Common.{◌∙◌, ap, decimal}
 use Rattle.std.proofs.lemmas.Result.{on_ok_weaker}
 use Rattle.ckpt_model.specs.Text.{numbers_joined}
-use Rattle.history_text.specs.Pieces.{each_after}
-use Rattle.history_text.proofs.Joins.{joined_is, in_two}
+use Rattle.history_reader.specs.Pieces.{each_after}
+use Rattle.history_reader.proofs.Joins.{joined_is}
+use Rattle.history_text.proofs.Joins.{in_two}
 use Rattle.history_text.proofs.pieces.put_numbers.Goals as goal
 
 pub returns-in_ok-put_number-in-Some : goal.returns-in_ok-put_number-in-Some

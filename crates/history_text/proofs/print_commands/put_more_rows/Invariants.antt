@@ -1,6 +1,6 @@
 use Rattle.std.proofs.Common.{◌≡◌, ◌++◌, take}
 use Rattle.ckpt_model.specs.Text.{list_word}
-use Rattle.history_text.specs.Pieces.{each_after}
+use Rattle.history_reader.specs.Pieces.{each_after}
 use Rattle.history_text.proofs.print_commands.put_more_rows.Given as goal
 
 abbrev pub invariant-loop-row : goal.invariant-loop-row

@@ -1,8 +1,9 @@
 use Rattle.std.proofs.Common.{◌∙◌, ap}
 use Rattle.std.proofs.lemmas.Result.{on_ok_weaker}
 use Rattle.ckpt_model.specs.Text.{list_text, list_word}
-use Rattle.history_text.specs.Pieces.{each_after}
-use Rattle.history_text.proofs.Joins.{joined_is, in_two}
+use Rattle.history_reader.specs.Pieces.{each_after}
+use Rattle.history_reader.proofs.Joins.{joined_is}
+use Rattle.history_text.proofs.Joins.{in_two}
 use Rattle.history_text.proofs.print_commands.put_rows.Goals as goal
 
 pub returns-in_ok-put_row-in-Some : goal.returns-in_ok-put_row-in-Some

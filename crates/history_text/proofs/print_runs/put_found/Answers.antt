@@ -2,8 +2,9 @@ use Rattle.std.proofs.Common.{codes}
 use Rattle.std.proofs.lemmas.Result.{on_ok_weaker}
 use Rattle.ckpt_model.specs.Text.{text_of, found_word, entry_word}
 use Rattle.ckpt_model.specs.declared.event.Event.TheVariants as event
-use Rattle.history_text.specs.Pieces.{each_after}
-use Rattle.history_text.proofs.Joins.{marked_is, in_four}
+use Rattle.history_reader.specs.Pieces.{each_after}
+use Rattle.history_reader.proofs.Joins.{marked_is}
+use Rattle.history_text.proofs.Joins.{in_four}
 use Rattle.history_text.proofs.print_runs.put_found.Goals as goal
 
 pub returns : goal.returns
