@@ -135,6 +135,7 @@ impl Round {
     /// The rank takes the reply that it has due.
     pub fn take_reply(&mut self, rank: u8) -> Option<Reply>
         ensures some { IfSome result (λ reply. IsSomeAnd (slice_get self.old rank) (λ seat. (seat.doing ≡ Doing.Owed reply) × (self.new ≡ slice_set self.old rank (freed seat)))) }
+        ensures due { result ≡ option_and_then (λ seat. reply_in seat.doing) (slice_get self.old rank) }
         ensures none { IfNone result (self.new ≡ self.old) }
     {
         let seat = self.seats.get_mut(rank as usize)?;
