@@ -25,7 +25,7 @@ member_tree desc node files =
     (entry (codes "SHAPE") (shape_tree desc.nodes desc.ranks) none)))))
 
 -- the body of a member's record
-abbrev pub member_body : Desc → ℕ → List (List FileRow) → List ℕ
+unfoldable pub member_body : Desc → ℕ → List (List FileRow) → List ℕ
 member_body desc node files = encoding (member_tree desc node files)
 
 -- what a record may say on a site of this shape

@@ -6,8 +6,9 @@ mod gates;
 mod member;
 mod part;
 mod parts;
+mod tree;
 
-pub use gates::{MemberGate, set_gate};
+pub use gates::{MemberGate, set_gate, write_member};
 pub use member::Member;
 pub use part::Part;
 pub use parts::{read_part, write_part};
