@@ -14,4 +14,6 @@ pub use reading::{Record, load, read_record};
 pub use record::{Loaded, close_gate, open_gate, write_body};
 
 #[cfg(test)]
+mod pair_tests;
+#[cfg(test)]
 mod tests;
