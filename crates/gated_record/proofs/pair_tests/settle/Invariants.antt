@@ -1,4 +1,4 @@
-use Rattle.std.proofs.Common.{◌≡◌, ◌+◌, ℕ, Bool, true, false, Option}
+use Rattle.std.proofs.Common.{◌+◌, Option}
 use Rattle.std.specs.Prelude.{codes, if◌then◌else◌}
 use Rattle.scr_base.specs.Stages.{left}
 use Rattle.gated_record.specs.PairStages.{IsPairStage}
