@@ -1,5 +1,5 @@
 -- A gated record: eight gate bytes, the length of a body in eight bytes, big-endian, and the body.
-use Rattle.std.specs.Prelude.{◌≡◌, ◌≢◌, ◌<◌, ◌≤◌, ◌+◌, ◌*◌, ◌==◌, if◌then◌else◌, ℕ, false, List, [], ◌∷◌, length, take, drop, Option, Result, Ok, Err}
+use Rattle.std.specs.Prelude.{◌≡◌, ◌≢◌, ◌<◌, ◌≤◌, ◌+◌, ◌*◌, ◌==◌, if◌then◌else◌, ℕ, Bool, false, List, [], ◌∷◌, length, take, drop, Option, Result, Ok, Err}
 use Rattle.std.specs.Int.{from_be_bytes, w64}
 use Rattle.node_device.specs.File.{File, MayLeave, bytes_of, byte_at}
 use Rattle.node_device.specs.DeviceState.{DeviceState, used_of}
@@ -10,6 +10,10 @@ use Rattle.node_device.specs.declared.device.DevError.TheVariants.{Failed, Full,
 -- what an open gate's byte is
 abbrev pub open_gate_byte : ℕ
 open_gate_byte = 0x4F
+
+-- is this gate open
+abbrev pub is_open : Option (List ℕ) → ℕ → Bool
+is_open o gate = byte_at o gate == open_gate_byte
 
 -- this gate is open
 abbrev pub IsOpen : Option (List ℕ) → ℕ → Type 0

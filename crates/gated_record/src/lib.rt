@@ -2,11 +2,18 @@
 //! by a write of its own once the body is stable.
 #![tactic(auto)]
 
+mod making;
+mod pair;
+mod pair_steps;
 mod reading;
 mod record;
 
-pub use reading::load;
+pub use pair::{PairValue, pair_load};
+pub use pair_steps::pair_step;
+pub use reading::{Record, load, read_record};
 pub use record::{Loaded, close_gate, open_gate, write_body};
 
+#[cfg(test)]
+mod pair_tests;
 #[cfg(test)]
 mod tests;

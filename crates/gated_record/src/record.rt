@@ -9,7 +9,7 @@ use node_device::{DevError, Device};
 use scr_base::Bytes;
 use std::alloc::{AllocError, Global};
 
-const OPEN: u8 = 0x4F;
+pub(crate) const OPEN: u8 = 0x4F;
 
 const SHUT: u8 = 0;
 
@@ -47,11 +47,11 @@ pub fn write_body<D: Device>(
 ) -> Result<(), DevError>
     requires name { IsDeviceName name.now }
     requires size { length body.now ≤ 1048576 }
-    requires shut { HasShutGates ((D.state dev.old).file name.now) }
+    requires shut { (D.state dev.old).tells ≡ true → HasShutGates ((D.state dev.old).file name.now) }
     ensures answer { BodyAnswers (D.state dev.old) name.now (length body.now) result }
     ensures body { (D.state dev.old).tells ≡ true → OnOk result (HasBody ((D.state dev.new).file name.now).now body.now) }
     ensures len { OnOk result (IsSomeAnd ((D.state dev.new).file name.now).len (λ len. 16 + length body.now ≤ len)) }
-    ensures shut { HasShutGates ((D.state dev.new).file name.now) }
+    ensures shut { (D.state dev.old).tells ≡ true → HasShutGates ((D.state dev.new).file name.now) }
     ensures torn { Torn 8 (8 + length body.now) ((D.state dev.old).file name.now) ((D.state dev.new).file name.now) }
     ensures refused { OnErr result (ReadsAlike (D.state dev.old) (D.state dev.new)) }
     ensures only { ChangesOnly name.now (D.state dev.old) (D.state dev.new) }
@@ -67,6 +67,7 @@ pub fn open_gate<D: Device>(dev: &mut D, name: &[u8], gate: u8) -> Result<(), De
     requires gate { gate < 8 }
     requires there { IsSomeAnd ((D.state dev.old).file name.now).len (λ len. gate < len) }
     ensures answer { SyncAnswers result }
+    ensures len { ((D.state dev.new).file name.now).len ≡ ((D.state dev.old).file name.now).len }
     ensures now { (D.state dev.old).tells ≡ true → OnOk result (((D.state dev.new).file name.now).now ≡ Some (set (bytes_of ((D.state dev.old).file name.now).now) gate open_gate_byte)) }
     ensures torn { Torn gate 1 ((D.state dev.old).file name.now) ((D.state dev.new).file name.now) }
     ensures kept { (D.state dev.old).tells ≡ true → IsAtRest ((D.state dev.old).file name.now) → (body : List ℕ) → HasBody ((D.state dev.old).file name.now).now body → KeepsBody ((D.state dev.new).file name.now) body }
@@ -83,6 +84,7 @@ pub fn close_gate<D: Device>(dev: &mut D, name: &[u8], gate: u8) -> Result<(), D
     requires gate { gate < 8 }
     requires there { IsSomeAnd ((D.state dev.old).file name.now).len (λ len. gate < len) }
     ensures answer { SyncAnswers result }
+    ensures len { ((D.state dev.new).file name.now).len ≡ ((D.state dev.old).file name.now).len }
     ensures now { (D.state dev.old).tells ≡ true → OnOk result (((D.state dev.new).file name.now).now ≡ Some (set (bytes_of ((D.state dev.old).file name.now).now) gate 0)) }
     ensures torn { Torn gate 1 ((D.state dev.old).file name.now) ((D.state dev.new).file name.now) }
     ensures kept { (D.state dev.old).tells ≡ true → IsAtRest ((D.state dev.old).file name.now) → (body : List ℕ) → HasBody ((D.state dev.old).file name.now).now body → KeepsBody ((D.state dev.new).file name.now) body }
@@ -94,7 +96,7 @@ pub fn close_gate<D: Device>(dev: &mut D, name: &[u8], gate: u8) -> Result<(), D
 }
 
 /// The open gates as a number.
-fn gates_from(bytes: &[u8]) -> u8
+pub(crate) fn gates_from(bytes: &[u8]) -> u8
     requires { length bytes.now ≤ 8 }
     ensures is { result ≡ gates_of bytes.now }
     ensures below { result < 2 ^ length bytes.now }

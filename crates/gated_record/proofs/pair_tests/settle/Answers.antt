@@ -1,0 +1,7 @@
+use Rattle.gated_record.proofs.pair_tests.settle.Goals as goal
+
+pub loop-over-init : goal.loop-over-init
+loop-over-init g c = c.requires.stage
+
+pub loop-over-preserved : goal.loop-over-preserved
+loop-over-preserved g c = let entry = c.loop-over.invariant in (entry.0, (c.in_ok-over.ensures.goes entry.0 entry.1).stage)

@@ -1,0 +1,81 @@
+-- What a call on a member does to its device, whole: its answer, the state before and the state after.
+use Rattle.std.specs.Prelude.{◌≡◌, ◌⊎◌, ◌<◌, ◌≤◌, ◌↔◌, ℕ, Bool, true, false, List, [], ◌∷◌, length, get_or, All, AllPairs, ◌≢◌, map, Option, None, Some, IsSome, Result, Ok, Err, OnOk, OnErr, IfOk, Vec}
+use Rattle.std.specs.declared.alloc.Global.{Global}
+use Rattle.scr_base.specs.declared.shape.DataId.{DataId}
+use Rattle.scr_base.specs.declared.shape.Shape.{Shape}
+use Rattle.scr_base.specs.declared.change.Change.{Change}
+use Rattle.scr_base.specs.declared.change.Change.TheVariants.{Remove}
+use Rattle.scr_base.specs.Stages.{left}
+use Rattle.node_device.specs.File.{IsRemoved}
+use Rattle.node_device.specs.DeviceState.{DeviceState, ChangesOnly, IsUnchanged}
+use Rattle.node_device.specs.Answers.{HasDeviceCause, NamesAnswers}
+use Rattle.node_device.specs.Calls.{Reads, Writes}
+use Rattle.node_device.specs.declared.device.DevError.{DevError}
+use Rattle.gated_record.specs.Record.{open_gate_byte}
+use Rattle.gated_record.specs.Calls.{WritesBody, TurnsGate}
+use Rattle.dataset_desc.specs.declared.desc.Desc.{Desc}
+use Rattle.filemap.specs.declared.rows.FileRow.{FileRow}
+use Rattle.member_store.specs.Names.{record_name, part_name, IsNameOf}
+use Rattle.member_store.specs.Members.{AreMembers, member_body}
+use Rattle.member_store.specs.declared.member.Member.{Member}
+use Rattle.member_store.specs.declared.part.Part.{Part}
+use Rattle.member_store.specs.declared.gates.MemberGate.{MemberGate}
+use Rattle.member_store.specs.declared.gates.MemberGate.TheVariants.{Whole, Sealed}
+
+-- the members are listed
+pub record Scans (shape : Shape) (result : Result (Vec Member Global) DevError) (old new : DeviceState) : Type 0 where
+  pub answer : NamesAnswers result
+  pub members : old.tells ≡ true → IfOk result (λ members. AreMembers shape old members.items)
+  pub same : IsUnchanged old new
+  pub cause : HasDeviceCause old new result
+
+-- bytes are written at a place of a part
+abbrev pub WritesPart : {T : Type 0} → DataId → ℕ → Part → ℕ → List ℕ → Result T DevError → DeviceState → DeviceState → Type 0
+WritesPart which node part = Writes (part_name which node part)
+
+-- `n` bytes of a part are read from a place on, into a buffer that holds `into` afterwards
+abbrev pub ReadsPart : {T : Type 0} → DataId → ℕ → Part → ℕ → ℕ → List ℕ → Result T DevError → DeviceState → DeviceState → Type 0
+ReadsPart which node part = Reads (part_name which node part)
+
+-- the body of a record whose gates are shut is written, and they stay shut
+abbrev pub WritesMember : {T : Type 0} → DataId → ℕ → Desc → List (List FileRow) → Result T DevError → DeviceState → DeviceState → Type 0
+WritesMember which node desc files = WritesBody (record_name which node) (member_body desc node files)
+
+-- the number of a gate
+abbrev pub gate_number : MemberGate → ℕ
+gate_number Whole = 0
+gate_number Sealed = 1
+
+-- what is written at a gate that is opened or closed
+abbrev pub gate_byte : Bool → ℕ
+gate_byte true = open_gate_byte
+gate_byte false = 0
+
+-- a gate of a record is opened or closed
+abbrev pub SetsGate : {T : Type 0} → DataId → ℕ → MemberGate → Bool → Result T DevError → DeviceState → DeviceState → Type 0
+SetsGate which node gate up = TurnsGate (record_name which node) (gate_number gate) (gate_byte up)
+
+-- the member's files that are there
+abbrev pub IsFileOf : DataId → ℕ → DeviceState → List ℕ → Type 0
+IsFileOf which node d name = IsNameOf which node name × IsSome (d.file name).len
+
+-- which changes are left: of each file of the member that is there, once, its removal
+pub record RemovesFiles (which : DataId) (node : ℕ) (d : DeviceState) (names : List (List ℕ)) : Type 0 where
+  pub there : All (IsFileOf which node d) names
+  pub every : (name : List ℕ) → IsFileOf which node d name → (k : ℕ) × (k < length names) × (get_or names k [] ≡ name)
+  pub distinct : AllPairs (λ name other. name ≢ other) names
+
+-- A stage of this member's removal: it has made no change, or knows the files that are left.
+abbrev pub IsDropStage : DataId → ℕ → DeviceState → Option (List Change) → Type 0
+IsDropStage which node d None = Unit {0}
+IsDropStage which node d (Some changes) = (names : List (List ℕ)) × (changes ≡ map Remove names) × RemovesFiles which node d names
+
+-- one file of the member, at most, is removed
+pub record Drops (which : DataId) (node : ℕ) (result : Result Bool DevError) (before after : Option (List Change)) (old new : DeviceState) : Type 0 where
+  pub answer : NamesAnswers result
+  pub over : IfOk result (λ over. (over ≡ true) ↔ ((name : List ℕ) → IsNameOf which node name → (new.file name).len ≡ None))
+  pub one : IsUnchanged old new ⊎ ((name : List ℕ) × IsNameOf which node name × IsRemoved (old.file name) (new.file name) × ChangesOnly name old new)
+  pub fewer : IfOk result (λ over. over ≡ false → left after < left before)
+  pub stage : IsDropStage which node new after
+  pub refused : OnErr result ((after ≡ before) × IsUnchanged old new)
+  pub cause : HasDeviceCause old new result

@@ -1,0 +1,98 @@
+//! The record of a member and its gates.
+ghost use Rattle.std.specs.Prelude.{◌≡◌, ◌<◌, ◌≤◌, ◌*◌, true, IsSomeAnd, length};
+ghost use Rattle.node_device.specs.DeviceState.{IsDeviceName};
+ghost use Rattle.gated_record.specs.Calls.{WritesBody, TurnsGate};
+ghost use Rattle.gated_record.specs.Record.{HasShutGates};
+ghost use Rattle.member_store.specs.Members.{member_body};
+ghost use Rattle.member_store.specs.Names.{record_name};
+ghost use Rattle.member_store.specs.Calls.{WritesMember, SetsGate, gate_number, gate_byte};
+
+use crate::device_name::DeviceName;
+use crate::tree::member_body;
+use dataset_desc::Desc;
+use filemap::Filemap;
+use gated_record::{close_gate, open_gate, write_body};
+use node_device::{DevError, Device};
+use scr_base::DataId;
+use std::alloc::Global;
+
+/// A gate of a member's record.
+#[derive(Clone, Copy, Debug, PartialEq, Eq)]
+pub enum MemberGate {
+    /// The member's files and shares stand.
+    Whole,
+    /// The dataset is complete on all nodes.
+    Sealed,
+}
+
+impl MemberGate {
+    fn number(self) -> u8
+        ensures is { result ≡ gate_number self }
+        ensures below { result < 8 }
+    {
+        match self {
+            MemberGate::Whole => 0,
+            MemberGate::Sealed => 1,
+        }
+    }
+}
+
+/// Writes the body of a member's record, by one write. Its gates are shut, and stay so. `Failed`; `Full` exactly where the
+/// write passes the capacity; `Memory`.
+pub fn write_member<D: Device>(
+    alloc: Global,
+    dev: &mut D,
+    which: DataId,
+    node: u8,
+    desc: &Desc,
+    files: &Filemap,
+) -> Result<(), DevError>
+    requires shut { (D.state dev.old).tells ≡ true → HasShutGates ((D.state dev.old).file (record_name which node)) }
+    requires which { desc.now.which ≡ which }
+    requires node { node < desc.now.nodes }
+    requires ranks { length files.now ≡ desc.now.nodes * desc.now.ranks }
+    ensures { WritesMember which node desc.now files.now result (D.state dev.old) (D.state dev.new) }
+{
+    let name = DeviceName::of_record(which, node);
+    let body = member_body(alloc, node, desc, files)?;
+    fill(alloc, dev, name.bytes(), body.list())
+}
+
+/// Writes the body of a record whose gates are shut.
+fn fill<D: Device>(alloc: Global, dev: &mut D, name: &[u8], body: &[u8]) -> Result<(), DevError>
+    requires name { IsDeviceName name.now }
+    requires size { length body.now ≤ 1048576 }
+    requires shut { (D.state dev.old).tells ≡ true → HasShutGates ((D.state dev.old).file name.now) }
+    ensures { WritesBody name.now body.now result (D.state dev.old) (D.state dev.new) }
+{
+    write_body(alloc, dev, name, body)
+}
+
+/// Opens a gate of a member's record, or closes it, by one write of one byte. It takes no memory. `Failed` alone.
+pub fn set_gate<D: Device>(
+    dev: &mut D,
+    which: DataId,
+    node: u8,
+    gate: MemberGate,
+    up: bool,
+) -> Result<(), DevError>
+    requires there { IsSomeAnd ((D.state dev.old).file (record_name which node)).len (λ len. gate_number gate < len) }
+    ensures { SetsGate which node gate up result (D.state dev.old) (D.state dev.new) }
+{
+    let name = DeviceName::of_record(which, node);
+    turn(dev, name.bytes(), gate.number(), up)
+}
+
+/// Opens or closes a gate of a record.
+fn turn<D: Device>(dev: &mut D, name: &[u8], gate: u8, up: bool) -> Result<(), DevError>
+    requires name { IsDeviceName name.now }
+    requires gate { gate < 8 }
+    requires there { IsSomeAnd ((D.state dev.old).file name.now).len (λ len. gate < len) }
+    ensures { TurnsGate name.now gate (gate_byte up) result (D.state dev.old) (D.state dev.new) }
+{
+    if up {
+        open_gate(dev, name, gate)
+    } else {
+        close_gate(dev, name, gate)
+    }
+}

@@ -1,0 +1,14 @@
+//! The members that a node's device holds: a record each, the files of its ranks, and their shares.
+#![tactic(auto)]
+
+mod device_name;
+mod gates;
+mod member;
+mod part;
+mod parts;
+mod tree;
+
+pub use gates::{MemberGate, set_gate, write_member};
+pub use member::Member;
+pub use part::Part;
+pub use parts::{read_part, write_part};
