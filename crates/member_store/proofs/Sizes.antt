@@ -1,5 +1,5 @@
 -- How deep the tree of a member's record is, and how long its encoding.
-use Rattle.std.proofs.Common.{◌≡◌, ◌<◌, ◌≤◌, ◌+◌, ◌*◌, ◌^◌, ℕ, zero, suc, max, List, [], ◌∷◌, ◌++◌, map, length, refl, sym, ◌∙◌, ap, subst, arith, length-append}
+use Rattle.std.proofs.Common.{◌≡◌, ◌<◌, ◌≤◌, ◌+◌, ◌*◌, ◌^◌, ℕ, suc, List, [], ◌∷◌, ◌++◌, map, length, refl, arith, length-append}
 use Rattle.std.specs.Prelude.{All, IsTrue, decimal, codes, ◌&&◌, Bool, true, false, nat_le}
 use Rattle.std.specs.Int.{w16, w32, to_be_bytes}
 use Rattle.std.proofs.lemmas.Fmt.{length-decimal-le}

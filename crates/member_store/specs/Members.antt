@@ -1,6 +1,5 @@
 -- What a member's record says, and which members a device holds.
-use Rattle.std.specs.Prelude.{◌≡◌, ◌⊎◌, ◌<◌, ◌*◌, ℕ, Bool, List, length, get_or, All, Contains, slice_get, Option, Some, codes, decimal}
-use Rattle.scr_base.specs.declared.shape.DataId.{DataId}
+use Rattle.std.specs.Prelude.{◌≡◌, ◌⊎◌, ◌<◌, ◌*◌, ℕ, List, All, Contains, slice_get, Option, Some, codes, decimal}
 use Rattle.scr_base.specs.declared.shape.Shape.{Shape}
 use Rattle.node_device.specs.DeviceState.{DeviceState}
 use Rattle.gated_record.specs.Record.{HasBody, is_open}

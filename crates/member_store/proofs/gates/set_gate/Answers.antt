@@ -1,8 +1,7 @@
-use Rattle.std.proofs.Common.{◌≡◌, ℕ, List, Option, sym, ◌∙◌, subst, ap}
-use Rattle.std.specs.Prelude.{IsSomeAnd}
+use Rattle.std.proofs.Common.{ℕ, List, ◌∙◌, subst}
 use Rattle.gated_record.specs.Calls.{TurnsGate}
 use Rattle.member_store.specs.Names.{record_name}
-use Rattle.member_store.specs.Calls.{gate_number, gate_byte}
+use Rattle.member_store.specs.Calls.{gate_byte}
 use Rattle.member_store.proofs.gates.set_gate.Goals as goal
 
 pub returns : goal.returns

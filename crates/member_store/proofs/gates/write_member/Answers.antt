@@ -1,4 +1,4 @@
-use Rattle.std.proofs.Common.{◌≡◌, ℕ, List, Option, sym, ◌∙◌, subst, ap}
+use Rattle.std.proofs.Common.{ℕ, List, ◌∙◌, subst}
 use Rattle.gated_record.specs.Calls.{WritesBody}
 use Rattle.member_store.specs.Names.{record_name}
 use Rattle.member_store.proofs.gates.write_member.Goals as goal

@@ -1,4 +1,4 @@
-use Rattle.std.proofs.Common.{◌<◌, [], subst, arith}
+use Rattle.std.proofs.Common.{[], subst, arith}
 use Rattle.std.proofs.lemmas.List.{get_or_default}
 use Rattle.filemap.specs.Rows.{IsRows}
 use Rattle.member_store.proofs.tree.know_rows.Goals as goal

@@ -1,4 +1,4 @@
-use Rattle.std.proofs.Common.{◌≡◌, ◌≤◌, ℕ, List, sym, ◌∙◌, subst, ap, arith, length}
+use Rattle.std.proofs.Common.{◌≤◌, ℕ, List, sym, ◌∙◌, subst, ap, arith, length}
 use Rattle.kvtree.specs.Entries.{Entries, depth}
 use Rattle.kvtree.specs.Encoding.{encoding}
 use Rattle.member_store.specs.Members.{member_body}
