@@ -15,3 +15,6 @@ pub use member::Member;
 pub use part::Part;
 pub use parts::{read_part, write_part};
 pub use removal::drop_step;
+
+#[cfg(test)]
+mod removal_tests;
