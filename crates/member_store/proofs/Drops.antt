@@ -1,22 +1,19 @@
 -- The removal of a member's files, from what is left of them.
-use Rattle.std.proofs.Common.{◌≡◌, ◌≢◌, ◌⊎◌, inl, inr, ◌<◌, ◌≤◌, ◌+◌, ◌^◌, ℕ, zero, suc, Bool, true, false, List, [], ◌∷◌, map, length, get_or, Option, None, Some, refl, sym, ◌∙◌, ap, subst, arith}
-use Rattle.std.specs.Prelude.{Result, Ok, Err, OnOk, OnErr, IfOk, IsOk, IsSome, All, AllPairs, Contains, is_none, ◌↔◌}
-use Rattle.std.proofs.lemmas.List.Elements.{All-tail}
+use Rattle.std.proofs.Common.{◌≡◌, ◌≢◌, inl, inr, ◌<◌, ◌+◌, ◌^◌, ℕ, zero, suc, Bool, true, false, List, [], ◌∷◌, map, length, get_or, Option, None, Some, refl, sym, ◌∙◌, ap, subst, arith}
+use Rattle.std.specs.Prelude.{Result, Ok, Err, OnOk, OnErr, IfOk, IsSome, Contains, is_none, ◌↔◌}
 use Rattle.scr_base.specs.declared.shape.DataId.{DataId}
 use Rattle.scr_base.specs.declared.change.Change.{Change}
 use Rattle.scr_base.specs.declared.change.Change.TheVariants.{Remove}
-use Rattle.scr_base.specs.Stages.{left, next_of, passed, is_over}
-use Rattle.node_device.specs.File.{File, IsRemoved}
-use Rattle.node_device.specs.DeviceState.{DeviceState, IsUnchanged, IsSound, IsDeviceName, ChangesOnly}
-use Rattle.node_device.specs.Answers.{HasDeviceCause, NamesAnswers, RemoveAnswers}
-use Rattle.node_device.specs.Calls.{Removes}
+use Rattle.scr_base.specs.Stages.{left, passed, is_over}
+use Rattle.node_device.specs.File.{File}
+use Rattle.node_device.specs.DeviceState.{DeviceState, IsUnchanged, IsSound, ChangesOnly}
+use Rattle.node_device.specs.Answers.{NamesAnswers, RemoveAnswers}
 use Rattle.node_device.specs.declared.device.DevError.{DevError}
 use Rattle.node_device.specs.declared.device.DevError.TheVariants.{Failed, Full, NoFile, Range, Memory}
-use Rattle.member_store.specs.Names.{record_name, part_name, IsPart, IsNameOf}
-use Rattle.member_store.specs.Calls.{IsFileOf, HasNoFile, AreFilesOf, IsDropStage, RemovesFile, RemovesOne, Drops}
+use Rattle.member_store.specs.Names.{record_name, part_name, IsPart}
+use Rattle.member_store.specs.Calls.{HasNoFile, AreFilesOf, IsDropStage, Drops}
 use Rattle.member_store.specs.DropSteps.{MayRemoveNext, RemovesNext}
 use Rattle.member_store.specs.declared.part.Part.{Part}
-use Rattle.member_store.proofs.PartNames.{part_no_record}
 
 none_or_some : (o : Option ℕ) → (IsSome o → ⊥) → o ≡ None
 none_or_some None no_len = refl

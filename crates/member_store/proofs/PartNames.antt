@@ -1,5 +1,5 @@
 -- Which bytes are the names of a member's files and shares.
-use Rattle.std.proofs.Common.{◌≡◌, ◌≢◌, ℕ, zero, suc, ◌+◌, ◌-◌, ◌<◌, ◌≤◌, ◌^◌, List, [], ◌∷◌, ◌++◌, length, take, drop, refl, sym, ap, ◌∙◌, subst, append_assoc, arith, codes, length-append, length-drop}
+use Rattle.std.proofs.Common.{◌≡◌, ◌≢◌, ℕ, suc, ◌+◌, ◌-◌, ◌<◌, ◌^◌, List, [], ◌∷◌, ◌++◌, length, take, drop, refl, sym, ap, ◌∙◌, append_assoc, arith, codes, length-append, length-drop}
 use Rattle.std.specs.Prelude.{decimal, slice_index}
 use Rattle.std.proofs.lemmas.List.{append_cancel_left, take_at, append-nil}
 use Rattle.scr_base.specs.declared.shape.DataId.{DataId}

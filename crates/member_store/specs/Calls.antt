@@ -1,5 +1,5 @@
 -- What a call on a member does to its device, whole: its answer, the state before and the state after.
-use Rattle.std.specs.Prelude.{◌≡◌, ◌⊎◌, ◌<◌, ◌≤◌, ◌+◌, ◌↔◌, ℕ, Bool, true, false, List, [], ◌∷◌, length, get_or, All, AllPairs, Contains, ◌≢◌, map, Option, None, Some, IsSome, Result, Ok, Err, OnOk, OnErr, IfOk, Vec}
+use Rattle.std.specs.Prelude.{◌≡◌, ◌⊎◌, ◌<◌, ◌+◌, ◌↔◌, ℕ, Bool, true, false, List, [], length, get_or, All, AllPairs, Contains, ◌≢◌, map, Option, None, Some, IsSome, Result, OnOk, OnErr, IfOk, Vec}
 use Rattle.std.specs.declared.alloc.Global.{Global}
 use Rattle.scr_base.specs.declared.shape.DataId.{DataId}
 use Rattle.scr_base.specs.declared.shape.Shape.{Shape}

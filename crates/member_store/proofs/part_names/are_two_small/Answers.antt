@@ -1,4 +1,4 @@
-use Rattle.std.proofs.Common.{◌≡◌, ◌<◌, ◌+◌, ℕ, List, length, subst, sym, arith}
+use Rattle.std.proofs.Common.{◌<◌, ◌+◌, length, subst, sym, arith}
 use Rattle.member_store.proofs.PartNames.{IsSmall, no_two, two_of, first_of, second_of, behind}
 use Rattle.member_store.proofs.part_names.are_two_small.Goals as goal
 

@@ -1,7 +1,7 @@
-use Rattle.std.proofs.Common.{Some, None, codes}
+use Rattle.std.proofs.Common.{Some, codes}
 use Rattle.std.proofs.lemmas.Bool.Decides.{Decides-eqb}
 use Rattle.std.proofs.lemmas.Slice.Eq.{strip_prefix_is}
-use Rattle.member_store.proofs.PartNames.{share_mark, mark_share, file_mark, mark_file, no_mark}
+use Rattle.member_store.proofs.PartNames.{share_mark, mark_share, file_mark, mark_file}
 use Rattle.member_store.proofs.part_names.is_mark.Goals as goal
 
 pub returns-in-Some : goal.returns-in-Some

@@ -1,7 +1,6 @@
-use Rattle.std.proofs.Common.{Some, None, ◌≡◌, ◌++◌, ◌∷◌, [], List, ℕ, sym, ap, ◌∙◌}
+use Rattle.std.proofs.Common.{Some, None, ◌++◌, List, ℕ, sym, ap, ◌∙◌}
 use Rattle.std.proofs.lemmas.Bool.Decides.{Decides-eqb}
 use Rattle.std.proofs.lemmas.Slice.Eq.{strip_prefix_is}
-use Rattle.member_store.specs.Names.{member_stem}
 use Rattle.member_store.proofs.PartNames.{named, mark_of, unnamed}
 use Rattle.member_store.proofs.part_names.is_part_name.Goals as goal
 

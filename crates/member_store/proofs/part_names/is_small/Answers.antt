@@ -1,5 +1,4 @@
-use Rattle.std.proofs.Common.{◌≡◌, ◌<◌, ◌^◌, ℕ, decimal, arith, sym, ◌∙◌}
-use Rattle.std.specs.Prelude.{IsTrue, nat_lt}
+use Rattle.std.proofs.Common.{arith, sym, ◌∙◌}
 use Rattle.member_store.proofs.Names.{numbers_same, below, is_below}
 use Rattle.member_store.proofs.part_names.is_small.Goals as goal
 
