@@ -1,5 +1,5 @@
 -- What a call on a member does to its device, whole: its answer, the state before and the state after.
-use Rattle.std.specs.Prelude.{◌≡◌, ◌⊎◌, ◌<◌, ◌↔◌, ℕ, Bool, true, false, List, [], length, get_or, All, AllPairs, ◌≢◌, map, Option, None, Some, IsSome, Result, OnErr, IfOk, Vec}
+use Rattle.std.specs.Prelude.{◌≡◌, ◌⊎◌, ◌<◌, ◌+◌, ◌↔◌, ℕ, Bool, true, false, List, [], length, get_or, All, AllPairs, Contains, ◌≢◌, map, Option, None, Some, IsSome, Result, OnOk, OnErr, IfOk, Vec}
 use Rattle.std.specs.declared.alloc.Global.{Global}
 use Rattle.scr_base.specs.declared.shape.DataId.{DataId}
 use Rattle.scr_base.specs.declared.shape.Shape.{Shape}
@@ -15,7 +15,7 @@ use Rattle.gated_record.specs.Record.{open_gate_byte}
 use Rattle.gated_record.specs.Calls.{WritesBody, TurnsGate}
 use Rattle.dataset_desc.specs.declared.desc.Desc.{Desc}
 use Rattle.filemap.specs.declared.rows.FileRow.{FileRow}
-use Rattle.member_store.specs.Names.{record_name, part_name, IsNameOf}
+use Rattle.member_store.specs.Names.{record_name, part_name, IsPart, IsNameOf}
 use Rattle.member_store.specs.Members.{AreMembers, member_body}
 use Rattle.member_store.specs.declared.member.Member.{Member}
 use Rattle.member_store.specs.declared.part.Part.{Part}
@@ -59,22 +59,38 @@ SetsGate which node gate up = TurnsGate (record_name which node) (gate_number ga
 abbrev pub IsFileOf : DataId → ℕ → DeviceState → List ℕ → Type 0
 IsFileOf which node d name = IsNameOf which node name × IsSome (d.file name).len
 
--- which changes are left: of each file of the member that is there, once, its removal
-pub record RemovesFiles (which : DataId) (node : ℕ) (d : DeviceState) (names : List (List ℕ)) : Type 0 where
+-- none of the member's files is there
+abbrev pub HasNoFile : DataId → ℕ → DeviceState → Type 0
+HasNoFile which node d = (name : List ℕ) → IsNameOf which node name → (d.file name).len ≡ None
+
+-- These are the member's files that are there, each once, its record the last.
+pub record AreFilesOf (which : DataId) (node : ℕ) (d : DeviceState) (names : List (List ℕ)) : Type 0 where
   pub there : All (IsFileOf which node d) names
-  pub every : (name : List ℕ) → IsFileOf which node d name → (k : ℕ) × (k < length names) × (get_or names k [] ≡ name)
+  pub every : (name : List ℕ) → IsFileOf which node d name → Contains names name
   pub distinct : AllPairs (λ name other. name ≢ other) names
+  pub last : (k : ℕ) → k < length names → get_or names k [] ≡ record_name which node → k + 1 ≡ length names
 
 -- A stage of this member's removal: it has made no change, or knows the files that are left.
 abbrev pub IsDropStage : DataId → ℕ → DeviceState → Option (List Change) → Type 0
 IsDropStage which node d None = Unit {0}
-IsDropStage which node d (Some changes) = (names : List (List ℕ)) × (changes ≡ map Remove names) × RemovesFiles which node d names
+IsDropStage which node d (Some changes) = (names : List (List ℕ)) × (changes ≡ map Remove names) × AreFilesOf which node d names
 
--- one file of the member, at most, is removed
+-- this file of the member is removed, and no other file is changed
+pub record RemovesFile (which : DataId) (node : ℕ) (name : List ℕ) (old new : DeviceState) : Type 0 where
+  pub there : IsFileOf which node old name
+  pub removed : IsRemoved (old.file name) (new.file name)
+  pub only : ChangesOnly name old new
+
+-- one file of the member is removed; where none is there, nothing is changed
+abbrev pub RemovesOne : DataId → ℕ → DeviceState → DeviceState → Type 0
+RemovesOne which node old new = ((name : List ℕ) × RemovesFile which node name old new) ⊎ (HasNoFile which node old × IsUnchanged old new)
+
+-- One file of the member is removed. While another one is left, its record stays.
 pub record Drops (which : DataId) (node : ℕ) (result : Result Bool DevError) (before after : Option (List Change)) (old new : DeviceState) : Type 0 where
   pub answer : NamesAnswers result
-  pub over : IfOk result (λ over. (over ≡ true) ↔ ((name : List ℕ) → IsNameOf which node name → (new.file name).len ≡ None))
-  pub one : IsUnchanged old new ⊎ ((name : List ℕ) × IsNameOf which node name × IsRemoved (old.file name) (new.file name) × ChangesOnly name old new)
+  pub over : IfOk result (λ over. (over ≡ true) ↔ HasNoFile which node new)
+  pub removed : OnOk result (RemovesOne which node old new)
+  pub record_last : (part : Part) → IsPart part → IsSome (new.file (part_name which node part)).len → (new.file (record_name which node)).len ≡ (old.file (record_name which node)).len
   pub fewer : IfOk result (λ over. over ≡ false → left after < left before)
   pub stage : IsDropStage which node new after
   pub refused : OnErr result ((after ≡ before) × IsUnchanged old new)

@@ -1,5 +1,5 @@
 //! The names of a member's files, made without taking memory.
-ghost use Rattle.std.specs.Prelude.{◌≡◌, ◌≤◌, ◌+◌, ◌++◌, [], length, decimal};
+ghost use Rattle.std.specs.Prelude.{◌≡◌, ◌≤◌, ◌+◌, ◌++◌, ◌∷◌, [], length, decimal};
 ghost use Rattle.member_store.specs.Names.{member_stem, record_name, part_name};
 ghost use Rattle.node_device.specs.DeviceState.{IsDeviceName};
 
@@ -61,6 +61,15 @@ impl DeviceName {
         name.push_number(which.run);
         name.push(".");
         name.push_number(node as u32);
+        name
+    }
+
+    /// What the names of a member's files begin with, and a dot.
+    pub fn dotted_stem(which: DataId, node: u8) -> DeviceName
+        ensures { result ≡ member_stem which node ++ 46 ∷ [] }
+    {
+        let mut name = DeviceName::stem(which, node);
+        name.push(".");
         name
     }
 

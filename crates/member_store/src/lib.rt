@@ -5,10 +5,16 @@ mod device_name;
 mod gates;
 mod member;
 mod part;
+mod part_names;
 mod parts;
+mod removal;
 mod tree;
 
 pub use gates::{MemberGate, set_gate, write_member};
 pub use member::Member;
 pub use part::Part;
 pub use parts::{read_part, write_part};
+pub use removal::drop_step;
+
+#[cfg(test)]
+mod removal_tests;

@@ -1,0 +1,199 @@
+-- The removal of a member's files, from what is left of them.
+use Rattle.std.proofs.Common.{◌≡◌, ◌≢◌, inl, inr, ◌<◌, ◌+◌, ◌^◌, ℕ, zero, suc, Bool, true, false, List, [], ◌∷◌, map, length, get_or, Option, None, Some, refl, sym, ◌∙◌, ap, subst, arith}
+use Rattle.std.specs.Prelude.{Result, Ok, Err, OnOk, OnErr, IfOk, IsSome, Contains, is_none, ◌↔◌}
+use Rattle.scr_base.specs.declared.shape.DataId.{DataId}
+use Rattle.scr_base.specs.declared.change.Change.{Change}
+use Rattle.scr_base.specs.declared.change.Change.TheVariants.{Remove}
+use Rattle.scr_base.specs.Stages.{left, passed, is_over}
+use Rattle.node_device.specs.File.{File}
+use Rattle.node_device.specs.DeviceState.{DeviceState, IsUnchanged, IsSound, ChangesOnly}
+use Rattle.node_device.specs.Answers.{NamesAnswers, RemoveAnswers}
+use Rattle.node_device.specs.declared.device.DevError.{DevError}
+use Rattle.node_device.specs.declared.device.DevError.TheVariants.{Failed, Full, NoFile, Range, Memory}
+use Rattle.member_store.specs.Names.{record_name, part_name, IsPart}
+use Rattle.member_store.specs.Calls.{HasNoFile, AreFilesOf, IsDropStage, Drops}
+use Rattle.member_store.specs.DropSteps.{MayRemoveNext, RemovesNext}
+use Rattle.member_store.specs.declared.part.Part.{Part}
+
+none_or_some : (o : Option ℕ) → (IsSome o → ⊥) → o ≡ None
+none_or_some None no_len = refl
+none_or_some (Some len) no_len = absurd (no_len refl)
+
+not_both : (o : Option ℕ) → o ≡ None → IsSome o → ⊥
+not_both None none some = absurd (cc some)
+not_both (Some len) none some = absurd (cc none)
+
+module _ (which : DataId) (node : ℕ) where
+  -- nothing is left exactly where no file is there
+  pub over_is : (d : DeviceState) (names : List (List ℕ)) → AreFilesOf which node d names → (is_over (Some (map Remove names)) ≡ true) ↔ HasNoFile which node d
+  over_is d [] files = (
+    λ over name named. none_or_some (d.file name).len (λ some. let found = files.every name (named, some) in absurd (omega (arith, found.1))),
+    λ none. refl,
+  )
+  over_is d (n ∷ names) files = (
+    λ over. absurd (cc over),
+    λ none. let first = files.there 0 [] (omega arith) in absurd (not_both (d.file n).len (none n first.0) first.1),
+  )
+
+  -- a file that is removed is no longer there, and the others are as they were
+  module _ (d e : DeviceState) (n : List ℕ) (names : List (List ℕ)) (files : AreFilesOf which node d (n ∷ names)) (gone : (e.file n).len ≡ None) (only : ChangesOnly n d e) where
+    another : (k : ℕ) (x : List ℕ) → k < length names → get_or names k x ≢ n
+    another k x lt is = files.distinct 0 (suc k) x (omega arith) (omega (arith, lt)) (sym is)
+
+    kept : (name : List ℕ) → name ≢ n → (e.file name).len ≡ (d.file name).len
+    kept name other = ap (λ (f : File). f.len) (only.others name other)
+
+    not_gone : (name : List ℕ) → IsSome (e.file name).len → name ≢ n
+    not_gone name some is = not_both (e.file n).len gone (subst (λ (x : List ℕ). IsSome (e.file x).len) is some)
+
+    behind_first : (name : List ℕ) → name ≢ n → Contains (n ∷ names) name → Contains names name
+    behind_first name other (zero, lt, is) = absurd (other (sym is))
+    behind_first name other (suc k, lt, is) = (k, omega (arith, lt), is)
+
+    pub files_left : AreFilesOf which node e names
+    files_left = record {
+      there = λ k x lt. let file = files.there (suc k) x (omega (arith, lt)) in (file.0, subst (λ (o : Option ℕ). IsSome o) (sym (kept (get_or names k x) (another k x lt))) file.1);
+      every = λ name file.
+          let other = not_gone name file.1 in
+          behind_first name other (files.every name (file.0, subst (λ (o : Option ℕ). IsSome o) (kept name other) file.1));
+      distinct = λ i j x lt within. files.distinct (suc i) (suc j) x (omega (arith, lt)) (omega (arith, within));
+      last = λ k lt is. let same : suc k + 1 ≡ length (n ∷ names) = files.last (suc k) (omega (arith, lt)) is in omega (arith, same);
+    }
+
+    -- while a file or share is left, it wasn't the record
+    pub record_kept : (part : Part) → IsPart part → IsSome (e.file (part_name which node part)).len → (e.file (record_name which node)).len ≡ (d.file (record_name which node)).len
+    record_kept part fits some = kept (record_name which node) (λ is.
+        let alone : 0 + 1 ≡ length (n ∷ names) = files.last 0 (omega arith) (sym is) in
+        let found = files_left.every (part_name which node part) (inr (part, fits, refl), some) in
+        absurd (omega (arith, alone, found.1)))
+
+  unchanged_files : (d e : DeviceState) (names : List (List ℕ)) → IsUnchanged d e → AreFilesOf which node d names → AreFilesOf which node e names
+  unchanged_files d e names same files = subst (λ (s : DeviceState). AreFilesOf which node s names) (sym same) (record { there = files.there; every = files.every; distinct = files.distinct; last = files.last })
+
+  unchanged_record : (d e : DeviceState) → IsUnchanged d e → (e.file (record_name which node)).len ≡ (d.file (record_name which node)).len
+  unchanged_record d e same = ap (λ (s : DeviceState). (s.file (record_name which node)).len) same
+
+  pub may_next : (d : DeviceState) (names : List (List ℕ)) → IsSound d → AreFilesOf which node d names → MayRemoveNext (Some (map Remove names))
+  may_next d [] sound files = tt
+  may_next d (n ∷ names) sound files = let first = files.there 0 [] (omega arith) in (n, refl, sound.named n first.1)
+
+  -- the file that comes next is removed
+  pub step_done : (d e : DeviceState) (names : List (List ℕ)) (over : Bool) → over ≡ is_over (passed (Some (map Remove names))) → AreFilesOf which node d names → RemovesNext {T = Bool} (Some (map Remove names)) (Ok over) d e → Drops which node (Ok over) (Some (map Remove names)) (passed (Some (map Remove names))) d e
+  step_done d e [] over told files (same, ok, cause) = record {
+    answer = tt;
+    over = subst (λ (o : Bool). (o ≡ true) ↔ HasNoFile which node e) (sym told) (over_is e [] (unchanged_files d e [] same files));
+    removed = inr ((over_is d [] files).0 refl, same);
+    record_last = λ part fits some. unchanged_record d e same;
+    fewer = λ is. absurd (cc (is, told));
+    stage = ([], refl, unchanged_files d e [] same files);
+    refused = tt;
+    cause = cause;
+  }
+  step_done d e (n ∷ names) over told files removes =
+      let made = removes n refl in
+      let left_files = files_left d e n names files made.removed.len made.only in record {
+        answer = tt;
+        over = subst (λ (o : Bool). (o ≡ true) ↔ HasNoFile which node e) (sym told) (over_is e names left_files);
+        removed = inl (n, record { there = files.there 0 [] (omega arith); removed = made.removed; only = made.only });
+        record_last = record_kept d e n names files made.removed.len made.only;
+        fewer = λ is. omega arith;
+        stage = (names, refl, left_files);
+        refused = tt;
+        cause = made.cause;
+      }
+
+  -- or that is refused
+  pub step_refused : (d e : DeviceState) (names : List (List ℕ)) (fault : DevError) → AreFilesOf which node d names → RemovesNext {T = Bool} (Some (map Remove names)) (Err fault) d e → Drops which node (Err fault) (Some (map Remove names)) (Some (map Remove names)) d e
+  step_refused d e [] fault files (same, ok, cause) = absurd (cc ok)
+  step_refused d e (n ∷ names) fault files removes =
+      let made = removes n refl in record {
+        answer = by_fault fault (files.there 0 [] (omega arith)).1 made.answer;
+        over = tt;
+        removed = tt;
+        record_last = λ part fits some. unchanged_record d e made.refused;
+        fewer = tt;
+        stage = (n ∷ names, refl, unchanged_files d e (n ∷ names) made.refused files);
+        refused = (refl, made.refused);
+        cause = made.cause;
+      }
+    where
+      by_fault : (x : DevError) → IsSome (d.file n).len → RemoveAnswers {T = Bool} (d.file n) (Err x) → NamesAnswers {T = Bool} (Err x)
+      by_fault Failed there a = tt
+      by_fault Full there a = absurd a
+      by_fault NoFile there a = absurd (not_both (d.file n).len a there)
+      by_fault Range there a = absurd a
+      by_fault Memory there a = tt
+
+  -- ## the calls, from what their parts say
+
+  over_after : (d e : DeviceState) (changes : List Change) (names : List (List ℕ)) → changes ≡ map Remove names → AreFilesOf which node d names → (after : Option (List Change)) (over : Bool) → RemovesNext {T = Bool} (Some changes) (Ok over) d e → after ≡ passed (Some changes) → over ≡ is_over after → Drops which node (Ok over) (Some changes) after d e
+  over_after d e changes names is files after over removes after_is told =
+      subst (λ (a : Option (List Change)). Drops which node (Ok over) (Some changes) a d e) (sym after_is)
+      (subst (λ (l : List Change). Drops which node (Ok over) (Some l) (passed (Some l)) d e) (sym is)
+      (step_done d e names over (told ∙ ap is_over after_is ∙ ap (λ (l : List Change). is_over (passed (Some l))) is) files (subst (λ (l : List Change). RemovesNext {T = Bool} (Some l) (Ok over) d e) is removes)))
+
+  refused_after : (d e : DeviceState) (changes : List Change) (names : List (List ℕ)) → changes ≡ map Remove names → AreFilesOf which node d names → (fault : DevError) → RemovesNext {T = Bool} (Some changes) (Err fault) d e → Drops which node (Err fault) (Some changes) (Some changes) d e
+  refused_after d e changes names is files fault removes =
+      subst (λ (l : List Change). Drops which node (Err fault) (Some l) (Some l) d e) (sym is)
+      (step_refused d e names fault files (subst (λ (l : List Change). RemovesNext {T = Bool} (Some l) (Err fault) d e) is removes))
+
+  -- a later call
+  pub later_may : (d : DeviceState) (stage : Option (List Change)) → IsSound d → is_none stage ≡ false → IsDropStage which node d stage → MayRemoveNext stage
+  later_may d None sound some entry = absurd (cc some)
+  later_may d (Some changes) sound some entry = subst (λ (l : List Change). MayRemoveNext (Some l)) (sym entry.1) (may_next d entry.0 sound entry.2)
+
+  pub later : (d e : DeviceState) (stage after : Option (List Change)) (result : Result Bool DevError) → is_none stage ≡ false → IsDropStage which node d stage → RemovesNext stage result d e → OnOk result (after ≡ passed stage) → IfOk result (λ over. over ≡ is_over after) → OnErr result (after ≡ stage) → Drops which node result stage after d e
+  later d e None after result some entry removes after_is told same = absurd (cc some)
+  later d e (Some changes) after (Ok over) some entry removes after_is told same = over_after d e changes entry.0 entry.1 entry.2 after over removes after_is told
+  later d e (Some changes) after (Err fault) some entry removes after_is told same = subst (λ (a : Option (List Change)). Drops which node (Err fault) (Some changes) a d e) (sym same) (refused_after d e changes entry.0 entry.1 entry.2 fault removes)
+
+  -- a first call whose files were found
+  module _ (c d e : DeviceState) (stage fresh : Option (List Change)) (is_new : is_none stage ≡ true) (changes : List Change) (is_begun : fresh ≡ Some changes) (few : left fresh < 2 ^ 64)
+      (found : IsDropStage which node c (Some changes)) (same : IsUnchanged c d) (faults : d.faults ≡ c.faults) where
+    back : d ≡ c
+    back = same ∙ ap (λ (n : ℕ). record c { faults = n }) faults
+
+    pub first_may : IsSound c → MayRemoveNext fresh
+    first_may sound = subst MayRemoveNext (sym is_begun) (later_may c (Some changes) sound refl found)
+
+    new_stage : (s : Option (List Change)) → is_none s ≡ true → s ≡ None
+    new_stage None is = refl
+    new_stage (Some l) is = absurd (cc is)
+
+    at_first : (over : Bool) (after : Option (List Change)) → left (Some changes) < 2 ^ 64 → Drops which node (Ok over) (Some changes) after c e → Drops which node (Ok over) None after c e
+    at_first over after few_changes drops = record {
+      answer = drops.answer;
+      over = drops.over;
+      removed = drops.removed;
+      record_last = drops.record_last;
+      fewer = λ is. let less = drops.fewer is in omega (arith, less, few_changes);
+      stage = drops.stage;
+      refused = tt;
+      cause = drops.cause;
+    }
+
+    pub first_done : (after : Option (List Change)) (over : Bool) → RemovesNext {T = Bool} fresh (Ok over) d e → after ≡ passed fresh → over ≡ is_over after → Drops which node (Ok over) stage after c e
+    first_done after over removes after_is over_is =
+        subst (λ (s : Option (List Change)). Drops which node (Ok over) s after c e) (sym (new_stage stage is_new))
+        (at_first over after (subst (λ (s : Option (List Change)). left s < 2 ^ 64) is_begun few)
+        (over_after c e changes found.0 found.1 found.2 after over
+        (subst (λ (s : Option (List Change)). RemovesNext {T = Bool} s (Ok over) c e) is_begun (subst (λ (s : DeviceState). RemovesNext {T = Bool} fresh (Ok over) s e) back removes))
+        (after_is ∙ ap passed is_begun) over_is))
+
+    at_first_refused : (fault : DevError) → Drops which node (Err fault) (Some changes) (Some changes) c e → Drops which node (Err fault) None None c e
+    at_first_refused fault drops = record {
+      answer = drops.answer;
+      over = tt;
+      removed = tt;
+      record_last = drops.record_last;
+      fewer = tt;
+      stage = tt;
+      refused = (refl, drops.refused.1);
+      cause = drops.cause;
+    }
+
+    pub first_refused : (fault : DevError) → RemovesNext {T = Bool} fresh (Err fault) d e → Drops which node (Err fault) stage stage c e
+    first_refused fault removes =
+        subst (λ (s : Option (List Change)). Drops which node (Err fault) s s c e) (sym (new_stage stage is_new))
+        (at_first_refused fault (refused_after c e changes found.0 found.1 found.2 fault
+        (subst (λ (s : Option (List Change)). RemovesNext {T = Bool} s (Err fault) c e) is_begun (subst (λ (s : DeviceState). RemovesNext {T = Bool} fresh (Err fault) s e) back removes))))
