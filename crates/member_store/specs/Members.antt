@@ -1,5 +1,6 @@
 -- What a member's record says, and which members a device holds.
-use Rattle.std.specs.Prelude.{◌≡◌, ◌⊎◌, ◌<◌, ◌*◌, ℕ, Bool, List, length, get_or, All, Contains, slice_get, Option, Some, codes, decimal}
+use Rattle.std.specs.Prelude.{◌≡◌, ◌⊎◌, ◌<◌, ◌*◌, ℕ, Bool, IsTrue, List, length, get_or, All, Contains, slice_get, Option, Some, codes, decimal}
+use Rattle.scr_base.specs.Words.{is_name}
 use Rattle.scr_base.specs.declared.shape.DataId.{DataId}
 use Rattle.scr_base.specs.declared.shape.Shape.{Shape}
 use Rattle.node_device.specs.DeviceState.{DeviceState}
@@ -30,6 +31,7 @@ member_body desc node files = encoding (member_tree desc node files)
 
 -- what a record may say on a site of this shape
 pub record IsMember (shape : Shape) (m : Member) : Type 0 where
+  pub named : IsTrue (is_name m.desc.name)
   pub which : m.desc.which ≡ m.which
   pub nodes : m.desc.nodes ≡ shape.nodes
   pub ranks : m.desc.ranks ≡ shape.ranks
