@@ -2,3 +2,4 @@ pub mod Names
 pub mod Members
 pub mod Calls
 pub mod Trees
+pub mod Scanning

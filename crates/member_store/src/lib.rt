@@ -4,11 +4,15 @@
 mod device_name;
 mod gates;
 mod member;
+mod order;
 mod part;
 mod parts;
+mod reading;
+mod scanning;
 mod tree;
 
 pub use gates::{MemberGate, set_gate, write_member};
 pub use member::Member;
 pub use part::Part;
 pub use parts::{read_part, write_part};
+pub use scanning::scan;
