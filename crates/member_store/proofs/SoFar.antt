@@ -1,13 +1,17 @@
 -- The members of the names so far, and those of one name more.
-use Rattle.std.proofs.Common.{◌≡◌, ◌≢◌, ◌⊎◌, inl, inr, ◌<◌, ◌≤◌, ◌+◌, ℕ, zero, suc, List, [], ◌∷◌, ◌++◌, Some, length, refl, sym, ◌∙◌, ap, subst, arith, slice_get, decimal, codes}
-use Rattle.std.specs.Prelude.{All, Contains, Result, Ok, Err, OnOk}
+use Rattle.std.proofs.Common.{rules, Option, None, true, take, get_or, ◌≡◌, ◌≢◌, ◌⊎◌, inl, inr, ◌<◌, ◌≤◌, ◌+◌, ℕ, zero, suc, List, [], ◌∷◌, ◌++◌, Some, length, refl, sym, ◌∙◌, ap, subst, arith, slice_get, decimal, codes}
+use Rattle.std.specs.Prelude.{All, Contains, Result, Ok, Err, OnOk, IsSome}
 use Rattle.std.proofs.lemmas.Option.{slice_get_within, slice_get-get_or, get_or_from_slice_get}
 use Rattle.std.proofs.lemmas.List.Elements.{Contains-push, Contains-append_left, Contains-push_cases}
+use Rattle.std.specs.Option.{option_map}
+use Rattle.std.proofs.lemmas.List.{take_more, get_or-take, get_or_default, length-take, take_all}
 use Rattle.scr_base.specs.declared.shape.DataId.{DataId}
 use Rattle.scr_base.specs.declared.shape.Shape.{Shape}
-use Rattle.node_device.specs.DeviceState.{DeviceState}
+use Rattle.node_device.specs.DeviceState.{DeviceState, IsUnchanged, IsAscending, IsSound}
+use Rattle.node_device.specs.File.{bytes_of}
+use Rattle.kvtree.proofs.Puts.{same_key}
 use Rattle.member_store.specs.Names.{record_name}
-use Rattle.member_store.specs.Members.{ReadsMember}
+use Rattle.member_store.specs.Members.{ReadsMember, AreMembers}
 use Rattle.member_store.specs.Scanning.{IsMet, AreMet, PutsMember}
 use Rattle.member_store.specs.declared.member.Member.{Member}
 use Rattle.member_store.proofs.Ordered.{AreOfOne, ascending, from, kept, put_there}
@@ -87,3 +91,49 @@ met_one shape d names name members after m reads only fresh puts met = record {
 pub on_ok : {T E : Type 0} (P Q : Type 0) (r : Result T E) → (P → Q) → OnOk r P → OnOk r Q
 on_ok P Q (Ok x) f p = f p
 on_ok P Q (Err e) f p = tt
+
+-- ## From name to name
+
+-- a device whose faults stay is as it was
+pub unchanged : (old new : DeviceState) → IsUnchanged old new → new.faults ≡ old.faults → new ≡ old
+unchanged old new is same = is ∙ ap (λ (f : ℕ). let d : DeviceState = record old { faults = f } in d) same
+
+pub none_met : (shape : Shape) (d : DeviceState) (names : List (List ℕ)) (members : List Member) → members ≡ [] → AreMet shape d (take 0 names) members
+none_met shape d names members is = subst (AreMet shape d (take 0 names)) (sym is) (record {
+  ascending = λ i j a b lt ia jb. absurd (cc ia);
+  read = λ k x lt. absurd (omega (arith, lt));
+  every = λ name m known reads. absurd (omega (arith, known.1, length-take 0 names));
+})
+
+-- a name stands once among ascending ones
+fresh : (names : List (List ℕ)) (k : ℕ) → IsAscending names → k < length names → ¬ Contains (take k names) (get_or names k [])
+fresh names k ascend lt known =
+    let before : known.0 < k = omega (arith, known.1, length-take k names) in
+    let same = sym (get_or-take k names known.0 (get_or names k []) before) ∙ known.2 in
+    let less = ascend known.0 k before lt in
+    absurd (cc (less, same_key (get_or names k []), get_or_default names known.0 (get_or names k []) [] (omega (arith, before, lt)), same))
+
+abbrev pub Takes : Shape → DeviceState → List ℕ → List Member → List Member → Type 0
+Takes shape d name before after = d.tells ≡ true → (names : List (List ℕ)) → ¬ Contains names name → AreMet shape d names before → AreMet shape d (names ++ name ∷ []) after
+
+pub next_met : (shape : Shape) (d s : DeviceState) (name : List ℕ) (before after : List Member) (k : ℕ) → s ≡ d → d.tells ≡ true → IsAscending d.names → k < length d.names → name ≡ get_or d.names k [] → AreMet shape d (take k d.names) before → Takes shape s name before after
+    → AreMet shape d (take (k + 1) d.names) after
+next_met shape d s name before after k same tells ascend lt is met takes =
+    subst (λ (names : List (List ℕ)). AreMet shape d names after) (ap (λ (n : List ℕ). take k d.names ++ n ∷ []) is ∙ sym (take_more d.names k [] lt))
+    (subst (λ (x : DeviceState). Takes shape x name before after) same takes tells (take k d.names) (subst (λ (n : List ℕ). ¬ Contains (take k d.names) n) (sym is) (fresh d.names k ascend lt)) met)
+
+-- ## All names
+
+pub all_met : (shape : Shape) (d : DeviceState) (k : ℕ) (members : List Member) → IsSound d → d.tells ≡ true → length d.names ≤ k → AreMet shape d (take k d.names) members → AreMembers shape d members
+all_met shape d k members sound tells end met = record {
+  ascending = met.ascending;
+  read = all_of _ members (λ i x at. (all_at (IsMet shape d (take k d.names)) members i x met.read at).reads);
+  every = λ name m reads. met.every name m (subst (λ (names : List (List ℕ)). Contains names name) (sym (take_all k d.names end)) (known name m reads)) reads;
+}
+  where
+    some : (o : Option (List ℕ)) → 16 ≤ length (bytes_of o) → IsSome (option_map length o)
+    some None long = absurd (omega (arith, long))
+    some (Some bytes) long = search rules
+
+    known : (name : List ℕ) (m : Member) → ReadsMember shape name (d.file name).now m → Contains d.names name
+    known name m reads = (sound.listed name).1 (subst IsSome (sym (sound.lengths tells name)) (some (d.file name).now (omega (arith, reads.body.whole))))
