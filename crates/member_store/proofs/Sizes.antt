@@ -65,7 +65,7 @@ All-head : {X : Type 0} (P : X → Type 0) (x : X) (xs : List X) → All P (x �
 All-head P x xs all = all 0 x (omega arith)
 
 -- a name has at most 64 bytes
-name_short : (a b c : Bool) → (a && b && c) ≡ true → b ≡ true
+pub name_short : (a b c : Bool) → (a && b && c) ≡ true → b ≡ true
 name_short true true c is = refl
 name_short true false c is = absurd (cc is)
 name_short false b c is = absurd (cc is)
@@ -184,6 +184,9 @@ pub ranks_few : (desc : Desc) → desc.nodes * desc.ranks ≤ 64
 ranks_few desc =
     let site = (five (is_number desc.which.id) (is_number desc.which.run) (is_site desc.nodes desc.ranks 0) (is_scheme desc.scheme) (is_size desc.size) desc.ranges).2 in
     leb-true (desc.nodes * desc.ranks) 64 (four (is_in 1 16 desc.nodes) (is_in 1 8 desc.ranks) (nat_le 0 16) (nat_le (desc.nodes * desc.ranks) 64) site).2
+
+pub shares_below : (desc : Desc) → shares_of desc.scheme ≤ 15
+shares_below desc = shares_few desc.scheme (five (is_number desc.which.id) (is_number desc.which.run) (is_site desc.nodes desc.ranks 0) (is_scheme desc.scheme) (is_size desc.size) desc.ranges).3
 
 pub record_short : (desc : Desc) (node : ℕ) (files : List (List FileRow)) → IsTrue (is_name desc.name) → node < 2 ^ 32 → length files ≡ desc.nodes * desc.ranks → All IsRows files → length (encoding (member_tree desc node files)) ≤ 1048576
 record_short desc node files named n ranks all =

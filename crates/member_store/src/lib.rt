@@ -4,10 +4,13 @@
 mod device_name;
 mod gates;
 mod member;
+mod order;
 mod part;
 mod part_names;
 mod parts;
+mod reading;
 mod removal;
+mod scanning;
 mod tree;
 
 pub use gates::{MemberGate, set_gate, write_member};
@@ -15,6 +18,7 @@ pub use member::Member;
 pub use part::Part;
 pub use parts::{read_part, write_part};
 pub use removal::drop_step;
+pub use scanning::scan;
 
 #[cfg(test)]
 mod removal_tests;
