@@ -16,3 +16,6 @@ pub use member::Member;
 pub use part::Part;
 pub use parts::{read_part, write_part};
 pub use scanning::scan;
+
+#[cfg(test)]
+mod scan_tests;
