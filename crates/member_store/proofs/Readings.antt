@@ -1,5 +1,5 @@
 -- A file reads as a member exactly where its record does.
-use Rattle.std.proofs.Common.{◌≡◌, ◌≢◌, ◌<◌, ◌≤◌, ◌+◌, ◌*◌, ◌/◌, ◌%◌, ◌==◌, ◌-◌, ◌++◌, ℕ, Bool, true, false, List, [], ◌∷◌, Option, Some, None, length, take, drop, length-append, codes, refl, sym, ◌∙◌, ap, subst, arith}
+use Rattle.std.proofs.Common.{◌≡◌, ◌≢◌, ◌≤◌, ◌+◌, ◌*◌, ◌/◌, ◌%◌, ◌==◌, ◌-◌, ◌++◌, ℕ, Bool, true, false, List, [], ◌∷◌, Option, Some, None, length, take, drop, length-append, codes, refl, sym, ◌∙◌, ap, subst, arith}
 use Rattle.std.specs.Prelude.{IfSome, IsNone, if◌then◌else◌, slice_index, Result, Ok, Err, IfOk}
 use Rattle.std.proofs.lemmas.List.{drop_at}
 use Rattle.scr_base.specs.declared.shape.DataId.{DataId}
@@ -11,7 +11,7 @@ use Rattle.gated_record.specs.Record.{HasBody, gates_of, is_open}
 use Rattle.gated_record.specs.Loads.{HoldsRecord}
 use Rattle.gated_record.specs.declared.reading.Record.{Record}
 use Rattle.member_store.specs.Names.{record_name}
-use Rattle.member_store.specs.Members.{IsMember, ReadsMember, member_tree, member_body}
+use Rattle.member_store.specs.Members.{ReadsMember, member_tree, member_body}
 use Rattle.member_store.specs.Trees.{Says}
 use Rattle.member_store.specs.Scanning.{RecordReads, member_of}
 use Rattle.member_store.specs.declared.member.Member.{Member}

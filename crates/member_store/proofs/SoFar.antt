@@ -1,11 +1,10 @@
 -- The members of the names so far, and those of one name more.
-use Rattle.std.proofs.Common.{rules, Option, None, true, take, get_or, ◌≡◌, ◌≢◌, ◌⊎◌, inl, inr, ◌<◌, ◌≤◌, ◌+◌, ℕ, zero, suc, List, [], ◌∷◌, ◌++◌, Some, length, refl, sym, ◌∙◌, ap, subst, arith, slice_get, decimal, codes}
+use Rattle.std.proofs.Common.{rules, Option, None, true, take, get_or, ◌≡◌, ◌⊎◌, inl, inr, ◌<◌, ◌≤◌, ◌+◌, ℕ, List, [], ◌∷◌, ◌++◌, Some, length, sym, ◌∙◌, ap, subst, arith, slice_get, decimal, codes}
 use Rattle.std.specs.Prelude.{All, Contains, Result, Ok, Err, OnOk, IsSome}
 use Rattle.std.proofs.lemmas.Option.{slice_get_within, slice_get-get_or, get_or_from_slice_get}
 use Rattle.std.proofs.lemmas.List.Elements.{Contains-push, Contains-append_left, Contains-push_cases}
 use Rattle.std.specs.Option.{option_map}
 use Rattle.std.proofs.lemmas.List.{take_more, get_or-take, get_or_default, length-take, take_all}
-use Rattle.scr_base.specs.declared.shape.DataId.{DataId}
 use Rattle.scr_base.specs.declared.shape.Shape.{Shape}
 use Rattle.node_device.specs.DeviceState.{DeviceState, IsUnchanged, IsAscending, IsSound}
 use Rattle.node_device.specs.File.{bytes_of}

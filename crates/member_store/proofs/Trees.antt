@@ -1,5 +1,5 @@
 -- The tree of a member's record is a tree, and its encoding is one.
-use Rattle.std.proofs.Common.{◌≡◌, ◌<◌, ◌≤◌, ◌+◌, ◌*◌, ◌^◌, ℕ, zero, suc, Bool, true, false, List, [], ◌∷◌, map, length, refl, sym, ◌∙◌, ap, subst, arith, codes}
+use Rattle.std.proofs.Common.{◌≡◌, ◌<◌, ◌≤◌, ◌+◌, ◌^◌, ℕ, suc, Bool, true, false, List, [], ◌∷◌, map, length, refl, ap, arith, codes}
 use Rattle.std.specs.Prelude.{All, IsTrue, decimal, ◌&&◌, nat_le}
 use Rattle.std.specs.List.{list_all}
 use Rattle.std.specs.declared.cmp.Ordering.TheVariants.{Less}
@@ -12,16 +12,15 @@ use Rattle.scr_base.specs.declared.shape.Flags.TheVariants.{Ckpt, Output, Both}
 use Rattle.scr_base.specs.declared.shape.Scheme.{Scheme}
 use Rattle.scr_base.specs.declared.shape.Scheme.TheVariants.{Single, Partner, Xor, Rs}
 use Rattle.scr_base.specs.declared.shape.Shape.{Shape}
-use Rattle.kvtree.specs.Entries.{Entries, none, entry, width, depth, key_order, IsKey, IsTree, AreAbove}
+use Rattle.kvtree.specs.Entries.{Entries, none, entry, width, key_order, IsKey, IsTree, AreAbove}
 use Rattle.kvtree.specs.Lookup.{leaf}
-use Rattle.kvtree.specs.Encoding.{IsEncoding, encoding}
+use Rattle.kvtree.specs.Encoding.{IsEncoding}
 use Rattle.kvtree.proofs.Numbers.{decimal_is_key}
 use Rattle.kvtree.proofs.Puts.{first_key}
 use Rattle.dataset_desc.specs.Parts.{dset_tree, scheme_tree, shape_tree, flags_key, scheme_key, shares_of}
-use Rattle.dataset_desc.specs.declared.desc.Desc.{Desc}
 use Rattle.filemap.specs.Rows.{IsRow, IsRows}
 use Rattle.filemap.specs.Numbered.{numbered, two_digits}
-use Rattle.filemap.specs.Maps.{IsMap, file_tree, rows_tree, map_tree}
+use Rattle.filemap.specs.Maps.{file_tree, rows_tree, map_tree}
 use Rattle.filemap.specs.declared.rows.FileRow.{FileRow}
 use Rattle.filemap.proofs.Digits.{digits_less, digits_are_key}
 use Rattle.member_store.specs.Members.{IsMember, member_tree, member_body}

@@ -22,3 +22,4 @@ pub use scanning::scan;
 
 #[cfg(test)]
 mod removal_tests;
+mod scan_tests;

@@ -1,4 +1,4 @@
-use Rattle.std.proofs.Common.{◌≡◌, ◌+◌, ℕ, ap}
+use Rattle.std.proofs.Common.{◌+◌, ℕ, ap}
 use Rattle.member_store.proofs.Ordered.{one_more, all_before}
 use Rattle.member_store.proofs.order.place_for.Goals as goal
 

@@ -1,4 +1,4 @@
-use Rattle.std.proofs.Common.{◌≡◌, ◌∙◌, ℕ, List, nat_eq, ap, codes}
+use Rattle.std.proofs.Common.{◌∙◌, ℕ, List, nat_eq, ap, codes}
 use Rattle.std.specs.Cmp.Lexicographic.{pointwise}
 use Rattle.member_store.specs.Names.{member_stem}
 use Rattle.member_store.proofs.Readings.{ends}

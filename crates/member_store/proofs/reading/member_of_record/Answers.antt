@@ -1,4 +1,4 @@
-use Rattle.std.proofs.Common.{◌≡◌, ◌∙◌, sym, ap, Some}
+use Rattle.std.proofs.Common.{◌∙◌, sym}
 use Rattle.kvtree.specs.Entries.{Entries}
 use Rattle.kvtree.specs.Encoding.{IsEncoding}
 use Rattle.member_store.specs.Trees.{Says}

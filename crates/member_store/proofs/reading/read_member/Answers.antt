@@ -1,4 +1,4 @@
-use Rattle.std.proofs.Common.{◌≡◌, List, ℕ, Option, Some, subst}
+use Rattle.std.proofs.Common.{subst}
 use Rattle.gated_record.specs.Loads.{HoldsRecord}
 use Rattle.member_store.proofs.Readings.{ok_reads, record_reads}
 use Rattle.member_store.proofs.reading.read_member.Goals as goal

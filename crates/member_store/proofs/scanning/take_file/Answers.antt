@@ -1,4 +1,4 @@
-use Rattle.std.proofs.Common.{◌≡◌, ◌∙◌, ◌++◌, ◌∷◌, [], sym, List, ℕ}
+use Rattle.std.proofs.Common.{◌∙◌, ◌++◌, ◌∷◌, [], sym}
 use Rattle.member_store.specs.Scanning.{AreMet, PutsMember}
 use Rattle.member_store.proofs.Readings.{there}
 use Rattle.member_store.proofs.SoFar.{met_none, met_one, on_ok}
