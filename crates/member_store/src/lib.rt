@@ -3,6 +3,7 @@
 
 mod device_name;
 mod gates;
+mod laws;
 mod member;
 mod part;
 mod part_names;
@@ -11,6 +12,7 @@ mod removal;
 mod tree;
 
 pub use gates::{MemberGate, set_gate, write_member};
+pub use laws::distinct_names;
 pub use member::Member;
 pub use part::Part;
 pub use parts::{read_part, write_part};
