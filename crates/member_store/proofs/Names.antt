@@ -55,13 +55,6 @@ front_no_dot [] (suc n) none = tt
 front_no_dot (b ∷ bs) zero none = tt
 front_no_dot (b ∷ bs) (suc n) none = (none 0 (omega arith), front_no_dot bs n (λ k lt. none (suc k) (omega (arith, lt))))
 
--- no dot, and so none at any place
-pub no_dot_at : (bs : List ℕ) (k : ℕ) → HasNoDot bs → k < length bs → slice_index bs k ≢ 46
-unfolding HasNoDot
-no_dot_at [] k none lt = absurd (omega (arith, lt))
-no_dot_at (b ∷ bs) zero none lt = none.0
-no_dot_at (b ∷ bs) (suc k) none lt = no_dot_at bs k none.1 (omega (arith, lt))
-
 -- a text is what stands before a place, the byte there, and what stands behind
 pub at_place : (bs : List ℕ) (n : ℕ) → n < length bs → bs ≡ take n bs ++ slice_index bs n ∷ drop (suc n) bs
 at_place [] n lt = absurd (omega (arith, lt))

@@ -58,7 +58,7 @@ behind bs at = ap (λ (l : List ℕ). take (length bs - at) l) (sym (append-nil 
 
 -- ## marks
 
-share_no_file : ◌≡◌ {A = ℕ} 112 102 → ⊥
+pub share_no_file : ◌≡◌ {A = ℕ} 112 102 → ⊥
 share_no_file is = absurd (omega (arith, is))
 
 pub share_mark : (bs local : List ℕ) → bs ≡ codes "p." ++ local → IsSmall local → IsMark bs

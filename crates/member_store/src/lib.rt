@@ -3,6 +3,7 @@
 
 mod device_name;
 mod gates;
+mod laws;
 mod member;
 mod order;
 mod part;
@@ -14,6 +15,7 @@ mod scanning;
 mod tree;
 
 pub use gates::{MemberGate, set_gate, write_member};
+pub use laws::distinct_names;
 pub use member::Member;
 pub use part::Part;
 pub use parts::{read_part, write_part};

@@ -10,5 +10,5 @@ returns-clause-found g c =
       held.0,
       held.1,
       all_picked c.args.which c.args.node (g.D.Device.state c.args.dev.now) held.0 (g.met.D.Device.sound c.args.dev.now)
-      (subst (λ (l : List (List ℕ)). Picks c.args.which c.args.node l (length l) held.0) is held.2),
+          (subst (λ (l : List (List ℕ)). Picks c.args.which c.args.node l (length l) held.0) is held.2),
     )

@@ -31,27 +31,27 @@ loop-name-preserved c =
           let is : get_or c.args.names.now c.loop-name.name-index [] ≡ record_name c.args.which c.args.node = sym here ∙ sym c.list.ensures ∙ compared.0 w.if-eq.true ∙ record_is in (
             picked ++ x ∷ [],
             ap (λ v. v.items) w.changes-is ∙ w.in_ok-push_back.ensures.items ∙ ap (λ (l : List Change). l ++ Remove w.in_ok-name.name ∷ []) held.1
-            ∙ ap (λ (b : List ℕ). map Remove picked ++ Remove b ∷ []) (w.in_ok-name.ensures ∙ here) ∙ sym (map-append Remove picked (x ∷ [])),
+                ∙ ap (λ (b : List ℕ). map Remove picked ++ Remove b ∷ []) (w.in_ok-name.ensures ∙ here) ∙ sym (map-append Remove picked (x ∷ [])),
             picks_back which node names n picked c.requires c.loop-name-test.true (inl is) is held.2,
           )
       | else-eq+then-is_part_name+in_ok-name-2+in_ok-push_front w ↦ (
         x ∷ picked,
         ap (λ v. v.items) w.changes-is ∙ w.in_ok-push_front.ensures.items ∙ ap (λ (l : List Change). Remove w.in_ok-name-2.name ∷ l) held.1
-        ∙ ap (λ (b : List ℕ). Remove b ∷ map Remove picked) (w.in_ok-name-2.ensures ∙ here),
+            ∙ ap (λ (b : List ℕ). Remove b ∷ map Remove picked) (w.in_ok-name-2.ensures ∙ here),
         picks_front which node names n picked c.requires c.loop-name-test.true
-        (subst (λ (b : List ℕ). IsNameOf c.args.which c.args.node b) (w.list-else-eq.ensures ∙ here) (inr (w.is_part_name.ensures.0 w.if-is_part_name.true)))
-        (λ is. absurd (cc (compared.1 (c.list.ensures ∙ here ∙ is ∙ sym record_is), w.if-eq.false)))
-        held.2,
+            (subst (λ (b : List ℕ). IsNameOf c.args.which c.args.node b) (w.list-else-eq.ensures ∙ here) (inr (w.is_part_name.ensures.0 w.if-is_part_name.true)))
+            (λ is. absurd (cc (compared.1 (c.list.ensures ∙ here ∙ is ∙ sym record_is), w.if-eq.false)))
+            held.2,
       )
       | else-eq+else-is_part_name w ↦ (
         picked,
         ap (λ v. v.items) w.changes-is ∙ held.1,
         picks_skip which node names n picked
-        (λ named. elim named [
-          | inl is ↦ absurd (cc (compared.1 (c.list.ensures ∙ here ∙ is ∙ sym record_is), w.if-eq.false))
-          | inr part ↦ absurd (cc (w.is_part_name.ensures.1 (subst (λ (b : List ℕ). IsPartName c.args.which c.args.node b) (sym (w.list-else-eq.ensures ∙ here)) part), w.if-is_part_name.false))
-        ])
-        held.2,
+            (λ named. elim named [
+              | inl is ↦ absurd (cc (compared.1 (c.list.ensures ∙ here ∙ is ∙ sym record_is), w.if-eq.false))
+              | inr part ↦ absurd (cc (w.is_part_name.ensures.1 (subst (λ (b : List ℕ). IsPartName c.args.which c.args.node b) (sym (w.list-else-eq.ensures ∙ here)) part), w.if-is_part_name.false))
+            ])
+            held.2,
       )
     ]
 
