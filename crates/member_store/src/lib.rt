@@ -24,4 +24,5 @@ pub use scanning::scan;
 
 #[cfg(test)]
 mod removal_tests;
+#[cfg(test)]
 mod scan_tests;

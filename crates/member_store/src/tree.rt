@@ -94,11 +94,7 @@ fn is_of_site(desc: &Desc, shape: Shape, node: u32) -> bool
 }
 
 /// What a tree says, if it is the tree of a member's record on a site of this shape.
-pub(crate) fn found_in(
-    alloc: Global,
-    tree: &Tree,
-    shape: Shape,
-) -> Result<Option<Found>, DevError>
+pub(crate) fn found_in(alloc: Global, tree: &Tree, shape: Shape) -> Result<Option<Found>, DevError>
     ensures memory { OnErr result (result ≡ Err DevError.Memory) }
     ensures says { IfOk result (λ o. IfSome o (Says shape tree.now)) }
     ensures only { (f : Found) → Says shape tree.now f → IfOk result (λ o. o ≡ Some f) }

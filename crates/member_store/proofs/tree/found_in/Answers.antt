@@ -15,11 +15,14 @@ pub returns-then-not-is_of_site-clause-only : goal.returns-then-not-is_of_site-c
 returns-then-not-is_of_site-clause-only c = λ f says.
     let same = c.in-Ok.ensures.only f.desc (parts_of c.args.shape c.args.tree.now f says) in
     let node = node_same c.args.shape c.args.tree.now c.in-Some.files.now c.in-Some.node f c.in-Some.ensures.small c.in-Some.ensures.keys says in
-    absurd (cc (c.if-not-is_of_site.true, c.is_of_site.ensures.1 (
-      ap (λ (d : Desc). d.nodes) same ∙ says.nodes,
-      ap (λ (d : Desc). d.ranks) same ∙ says.ranks,
-      omega (arith, node, says.node_is, ap (λ (d : Desc). d.nodes) same),
-    )))
+    absurd (cc (
+      c.if-not-is_of_site.true,
+      c.is_of_site.ensures.1 (
+        ap (λ (d : Desc). d.nodes) same ∙ says.nodes,
+        ap (λ (d : Desc). d.ranks) same ∙ says.ranks,
+        omega (arith, node, says.node_is, ap (λ (d : Desc). d.nodes) same),
+      ),
+    ))
 
 pub from_tree-requires-2 : goal.from_tree-requires-2
 from_tree-requires-2 c = some_few c.in-Ok.desc
