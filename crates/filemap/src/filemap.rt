@@ -66,6 +66,13 @@ impl Filemap {
         self.ranks[rank as usize].extend(file as usize, len);
     }
 
+    /// How many ranks there are.
+    pub fn ranks(&self) -> u8
+        ensures { result ≡ length self.now }
+    {
+        self.ranks.len() as u8
+    }
+
     /// A rank's files, in the order of their first route.
     pub fn rows(&self, rank: u8) -> &[FileRow]
         requires { rank < length self.now }

@@ -20,6 +20,7 @@ fn the_first_checkpoint_goes_both_ways(rt: HostRuntime) -> Result<(), Fail> {
     assert_eq!(rt; map.copy()?.to_tree()?.encode()?.list(), FIRST);
     let again = Filemap::from_tree(alloc, &decode(alloc, FIRST)?, 1)?;
     assert_eq!(rt; again.to_tree()?.encode()?.list(), FIRST);
+    assert_eq!(rt; again.ranks(), 1);
     Ok(())
 }
 
@@ -27,6 +28,7 @@ fn the_first_checkpoint_goes_both_ways(rt: HostRuntime) -> Result<(), Fail> {
 fn files_keep_the_order_of_their_first_route(rt: HostRuntime) -> Result<(), Fail> {
     let alloc = rt.alloc();
     let mut map = Filemap::new(alloc, 2)?;
+    assert_eq!(rt; map.ranks(), 2);
     for (name, number) in [(b"b", 0), (b"a", 1), (b"b", 0), (b"c", 2), (b"a", 1)] {
         assert_eq!(rt; map.route(1, &Name::read(alloc, name)?)?, number);
     }

@@ -1,10 +1,11 @@
 -- The beginning of a pair's way, from what was found.
 use Rattle.std.proofs.Common.{◌≡◌, ◌≢◌, inl, inr, ◌<◌, ◌≤◌, ◌+◌, ◌-◌, ◌%◌, ◌^◌, ℕ, zero, suc, Bool, true, false, List, [], ◌∷◌, ◌++◌, length, Option, None, Some, refl, sym, ◌∙◌, ap, subst, arith, append_assoc}
-use Rattle.std.specs.Prelude.{if◌then◌else◌, nat_lt, Result, Ok, Err, IsSomeAnd, unwrap_or, OnOk, OnErr, is_none}
+use Rattle.std.specs.Prelude.{All, if◌then◌else◌, nat_lt, Result, Ok, Err, IsSomeAnd, unwrap_or, OnOk, OnErr, is_none}
 use Rattle.std.proofs.lemmas.Bool.{ltb-true, ltb-false}
 use Rattle.std.proofs.lemmas.Bool.Decides.{eqb_tells}
+use Rattle.std.proofs.lemmas.List.Elements.{All-append, All-cons, All-nil, All-tail}
 use Rattle.scr_base.specs.declared.change.Change.{Change}
-use Rattle.scr_base.specs.declared.change.Change.TheVariants.{Open, Write, Sync}
+use Rattle.scr_base.specs.declared.change.Change.TheVariants.{Open, Close, Write, Sync}
 use Rattle.scr_base.specs.Stages.{left, next_of, passed, is_over}
 use Rattle.node_device.specs.File.{File, MayLeave}
 use Rattle.node_device.specs.DeviceState.{DeviceState, IsUnchanged, IsSound}
@@ -12,13 +13,13 @@ use Rattle.node_device.specs.Answers.{HasDeviceCause, NamesAnswers}
 use Rattle.node_device.specs.declared.device.DevError.{DevError}
 use Rattle.node_device.specs.declared.device.DevError.TheVariants.{Failed, Full, NoFile, Range, Memory}
 use Rattle.gated_record.specs.Pair.{value_in, copy_name, pair_body, copy_of, next_version, MayFollow, newer}
-use Rattle.gated_record.specs.PairStages.{PairLeaves, IsOldOrWanted, HasGate, Opened, Closing, IsOnWay, IsPairStage, MayBegin, closings, ending, value_by, IsBelow, open_from}
-use Rattle.gated_record.specs.PairSteps.{Finds, MayStep, StepMade, StepAnswers, StepsPair}
+use Rattle.gated_record.specs.PairStages.{PairLeaves, IsOldOrWanted, HasGate, Opened, Closing, IsOnWay, IsPairStage, IsCopyName, IsChangeOf, IsStageOf, MayBegin, closings, ending, value_by, IsBelow, open_from}
+use Rattle.gated_record.specs.PairSteps.{Finds, MayStep, StepMade, PairAnswers, StepAnswers, StepsPair}
 use Rattle.gated_record.specs.declared.pair.PairValue.{PairValue}
 use Rattle.gated_record.proofs.Plans.{open_within}
 use Rattle.gated_record.proofs.Copies.{in_its_copy, by_one}
 use Rattle.gated_record.proofs.PairWay.{copies_by_leaves}
-use Rattle.gated_record.proofs.PairSteps.{unchanged_pair, may_step, steps_ok, steps_err}
+use Rattle.gated_record.proofs.PairSteps.{unchanged_pair, is_copy_name, may_step, steps_ok, steps_err}
 
 -- the version that is next belongs in the other copy
 next_differs : (v w : ℕ) → w ≡ next_version v → v % 2 ≢ w % 2
@@ -117,6 +118,39 @@ begun stem old want d changes sound finds may = by_stands finds.begins.stands re
               };
         }
 
+-- what was found are changes to the pair
+closings_of : (stem : List ℕ) (name : List ℕ) (gates : List ℕ) → IsCopyName stem name → All (λ gate. gate < 8) gates → All (IsChangeOf stem) (closings name gates)
+closings_of stem name [] copy low = All-nil (IsChangeOf stem)
+closings_of stem name (k ∷ gates) copy low = All-cons (IsChangeOf stem) (Close name k) (closings name gates) (copy, low 0 0 (omega arith)) (closings_of stem name gates copy (All-tail (λ gate. gate < 8) k gates low))
+
+ending_of : (stem : List ℕ) (name : List ℕ) (gate : Bool) → IsCopyName stem name → All (IsChangeOf stem) (ending name gate)
+ending_of stem name true copy = All-cons (IsChangeOf stem) (Close name 0) (Sync ∷ []) (copy, omega arith) (All-cons (IsChangeOf stem) Sync [] tt (All-nil (IsChangeOf stem)))
+ending_of stem name false copy = All-nil (IsChangeOf stem)
+
+filling_of : (stem : List ℕ) (name : List ℕ) → IsCopyName stem name → All (IsChangeOf stem) (Sync ∷ Write name ∷ Sync ∷ Open name 0 ∷ [])
+filling_of stem name copy =
+    let opening : All (IsChangeOf stem) (Open name 0 ∷ []) = All-cons (IsChangeOf stem) (Open name 0) [] (copy, omega arith) (All-nil (IsChangeOf stem)) in
+    let synced : All (IsChangeOf stem) (Sync ∷ Open name 0 ∷ []) = All-cons (IsChangeOf stem) Sync (Open name 0 ∷ []) tt opening in
+    All-cons (IsChangeOf stem) Sync (Write name ∷ Sync ∷ Open name 0 ∷ []) tt (All-cons (IsChangeOf stem) (Write name) (Sync ∷ Open name 0 ∷ []) copy synced)
+
+pub found_of : (stem : List ℕ) (want : PairValue) (d : DeviceState) (changes : List Change) → Finds stem (copy_of want) want d changes → All (IsChangeOf stem) changes
+found_of stem want d changes finds =
+    subst (All (IsChangeOf stem)) (sym finds.changes_are)
+    (All-append (IsChangeOf stem) finds.front (Sync ∷ ending (copy_name stem (1 - copy_of want)) finds.gate) (by_stands finds.begins.stands refl)
+    (All-cons (IsChangeOf stem) Sync (ending (copy_name stem (1 - copy_of want)) finds.gate) tt (ending_of stem (copy_name stem (1 - copy_of want)) finds.gate (is_copy_name stem (1 - copy_of want) (omega arith)))))
+  where
+    copy : IsCopyName stem (copy_name stem (copy_of want))
+    copy = is_copy_name stem (copy_of want) (omega arith)
+
+    by_stands : (b : Bool) → finds.begins.stands ≡ b → All (IsChangeOf stem) finds.front
+    by_stands true is = subst (All (IsChangeOf stem)) (sym (finds.begins.none is)) (All-nil (IsChangeOf stem))
+    by_stands false is =
+        let closes = finds.begins.closes is in
+        let few : length closes.front ≤ 8 = closes.few in
+        let low = open_within (λ (gate : ℕ). gate < 8) 0 closes.front (λ gate lt. omega (arith, lt, few)) in
+        let closing = subst (All (IsChangeOf stem)) (sym closes.changes_are) (closings_of stem (copy_name stem (copy_of want)) (open_from 0 closes.front) copy low) in
+        subst (All (IsChangeOf stem)) (sym (finds.begins.filling is)) (All-append (IsChangeOf stem) finds.begins.closing (Sync ∷ Write (copy_name stem (copy_of want)) ∷ Sync ∷ Open (copy_name stem (copy_of want)) 0 ∷ []) closing (filling_of stem (copy_name stem (copy_of want)) copy))
+
 -- the first change is no write of a body
 closings_first : (name : List ℕ) (gates : List ℕ) (more : List Change) (n : List ℕ) → next_of (Some (closings name gates ++ Sync ∷ more)) ≢ Some (Write n)
 closings_first name [] more n is = cc is
@@ -139,25 +173,42 @@ pub first_call : (stem : List ℕ) (want : PairValue) (d e : DeviceState) (chang
     → StepsPair stem want result (Some changes) after d e → OnOk result (late ≡ after) → OnErr result (late ≡ None) → StepsPair stem want result None late d e
 first_call stem want d e changes (Ok over) after late sound finds few steps same none = record {
   answer = λ n is. absurd (cc is);
+  exact = λ value may n is. absurd (cc is);
   goes = λ value may. let gone = steps.goes value (begun stem value want d changes sound finds may) in record { leaves = gone.leaves; stage = subst (λ (x : Option (List Change)). IsPairStage stem value want e x) (sym same) gone.stage };
+  made = λ changes is. absurd (cc is);
+  passed = λ changes is. absurd (cc is);
+  stage = subst (IsStageOf stem) (sym same) steps.stage;
   over = steps.over ∙ ap is_over (sym same);
-  stands = steps.stands;
+  stands = λ value may. steps.stands value (begun stem value want d changes sound finds may);
   fewer = λ is. let le = steps.fewer is in subst (λ (x : Option (List Change)). left x < 2 ^ 64) (sym same) (omega (arith, le, few));
   refused = tt;
   only = steps.only;
+  rest = steps.rest;
   cause = steps.cause;
 }
 first_call stem want d e changes (Err fault) after late sound finds few steps same none = record {
-  answer = by_fault fault steps.answer;
+  answer = pair_fault fault steps.answer;
+  exact = λ value may. by_fault fault (steps.exact value (begun stem value want d changes sound finds may));
   goes = λ value may. let gone = steps.goes value (begun stem value want d changes sound finds may) in record { leaves = gone.leaves; stage = tt };
+  made = λ changes is. absurd (cc is);
+  passed = λ changes is. absurd (cc is);
+  stage = subst (IsStageOf stem) (sym none) tt;
   over = tt;
-  stands = tt;
+  stands = λ value may. tt;
   fewer = tt;
   refused = none;
   only = steps.only;
+  rest = tt;
   cause = steps.cause;
 }
   where
+    pair_fault : (x : DevError) → PairAnswers {T = Bool} stem want (Some changes) d (Err x) → PairAnswers {T = Bool} stem want None d (Err x)
+    pair_fault Failed a = tt
+    pair_fault Full a = a
+    pair_fault NoFile a = absurd a
+    pair_fault Range a = absurd a
+    pair_fault Memory a = tt
+
     by_fault : (x : DevError) → StepAnswers {T = Bool} stem want (Some changes) d (Err x) → StepAnswers {T = Bool} stem want None d (Err x)
     by_fault Failed a = tt
     by_fault Full a = absurd (first_no_write stem (copy_of want) want d changes finds a.0 a.1)
@@ -168,49 +219,51 @@ first_call stem want d e changes (Err fault) after late sound finds few steps sa
 -- the first call, from what its parts say
 module _ (stem : List ℕ) (want : PairValue) (short_stem : length stem ≤ 158) (short : length want.body ≤ 1048572) (above : 1 ≤ want.version) (fits : want.version < 2 ^ 32)
     (d : DeviceState) (sound : IsSound d) (changes : List Change) (stage fresh : Option (List Change)) (is_new : stage ≡ None) (is_begun : fresh ≡ Some changes) (few : left fresh < 2 ^ 64)
-    (finds : Finds stem (copy_of want) want d changes) (entry : (old : Option PairValue) × IsPairStage stem old want d stage) where
-  way : IsOnWay stem (copy_of want) entry.0 want d changes
-  way = begun stem entry.0 want d changes sound finds (subst (λ (x : Option (List Change)). IsPairStage stem entry.0 want d x) is_new entry.1)
-
-  pub first_may : MayStep fresh (pair_body want) d
-  first_may = subst (λ (x : Option (List Change)). MayStep x (pair_body want) d) (sym is_begun) (may_step stem entry.0 want d short_stem short changes way)
+    (finds : Finds stem (copy_of want) want d changes) where
+  pub first_may : MayStep fresh (pair_body want)
+  first_may = subst (λ (x : Option (List Change)). MayStep x (pair_body want)) (sym is_begun) (may_step stem want short_stem short changes (found_of stem want d changes finds))
 
   pub first_ok : (e : DeviceState) (after : Option (List Change)) (over : Bool) → StepMade {T = Unit {0}} fresh (pair_body want) (Ok (tt {0})) d e → after ≡ passed fresh → over ≡ is_over after → StepsPair stem want (Ok over) stage after d e
   first_ok e after over made after_is over_is = subst (λ (x : Option (List Change)). StepsPair stem want (Ok over) x after d e) (sym is_new)
       (first_call stem want d e changes (Ok over) after after sound finds (subst (λ (x : Option (List Change)). left x < 2 ^ 64) is_begun few)
-      (steps_ok stem want short_stem short above fits d e sound changes after over (after_is ∙ ap passed is_begun) over_is entry.0 way (subst (λ (x : Option (List Change)). StepMade {T = Unit {0}} x (pair_body want) (Ok (tt {0})) d e) is_begun made)) refl tt)
+      (steps_ok stem want above fits d e sound changes after over (after_is ∙ ap passed is_begun) over_is (found_of stem want d changes finds) (subst (λ (x : Option (List Change)). StepMade {T = Unit {0}} x (pair_body want) (Ok (tt {0})) d e) is_begun made)) refl tt)
 
   pub first_err : (e : DeviceState) (fault : DevError) → StepMade {T = Unit {0}} fresh (pair_body want) (Err fault) d e → StepsPair stem want (Err fault) stage stage d e
   first_err e fault made = subst (λ (x : Option (List Change)). StepsPair stem want (Err fault) x x d e) (sym is_new)
       (first_call stem want d e changes (Err fault) (Some changes) None sound finds (subst (λ (x : Option (List Change)). left x < 2 ^ 64) is_begun few)
-      (steps_err stem want short_stem short above fits d e sound changes (Some changes) fault refl entry.0 way (subst (λ (x : Option (List Change)). StepMade {T = Unit {0}} x (pair_body want) (Err fault) d e) is_begun made)) tt refl)
+      (steps_err stem want above fits d e sound changes (Some changes) fault refl (found_of stem want d changes finds) (subst (λ (x : Option (List Change)). StepMade {T = Unit {0}} x (pair_body want) (Err fault) d e) is_begun made)) tt refl)
 
 -- a later call, from what its parts say
 module _ (stem : List ℕ) (want : PairValue) (short_stem : length stem ≤ 158) (short : length want.body ≤ 1048572) (above : 1 ≤ want.version) (fits : want.version < 2 ^ 32)
     (d : DeviceState) (sound : IsSound d) where
-  pub later_may : (stage : Option (List Change)) → is_none stage ≡ false → (old : Option PairValue) × IsPairStage stem old want d stage → MayStep stage (pair_body want) d
+  pub later_may : (stage : Option (List Change)) → is_none stage ≡ false → IsStageOf stem stage → MayStep stage (pair_body want)
   later_may None some entry = absurd (cc some)
-  later_may (Some changes) some entry = may_step stem entry.0 want d short_stem short changes entry.1
+  later_may (Some changes) some entry = may_step stem want short_stem short changes entry
 
-  pub later_ok : (stage : Option (List Change)) → is_none stage ≡ false → (old : Option PairValue) × IsPairStage stem old want d stage → (e : DeviceState) (after : Option (List Change)) (over : Bool) → StepMade {T = Unit {0}} stage (pair_body want) (Ok (tt {0})) d e → after ≡ passed stage → over ≡ is_over after → StepsPair stem want (Ok over) stage after d e
+  pub later_ok : (stage : Option (List Change)) → is_none stage ≡ false → IsStageOf stem stage → (e : DeviceState) (after : Option (List Change)) (over : Bool) → StepMade {T = Unit {0}} stage (pair_body want) (Ok (tt {0})) d e → after ≡ passed stage → over ≡ is_over after → StepsPair stem want (Ok over) stage after d e
   later_ok None some entry e after over made after_is over_is = absurd (cc some)
-  later_ok (Some changes) some entry e after over made after_is over_is = steps_ok stem want short_stem short above fits d e sound changes after over after_is over_is entry.0 entry.1 made
+  later_ok (Some changes) some entry e after over made after_is over_is = steps_ok stem want above fits d e sound changes after over after_is over_is entry made
 
-  pub later_err : (stage : Option (List Change)) → is_none stage ≡ false → (old : Option PairValue) × IsPairStage stem old want d stage → (e : DeviceState) (after : Option (List Change)) (fault : DevError) → StepMade {T = Unit {0}} stage (pair_body want) (Err fault) d e → after ≡ stage → StepsPair stem want (Err fault) stage after d e
+  pub later_err : (stage : Option (List Change)) → is_none stage ≡ false → IsStageOf stem stage → (e : DeviceState) (after : Option (List Change)) (fault : DevError) → StepMade {T = Unit {0}} stage (pair_body want) (Err fault) d e → after ≡ stage → StepsPair stem want (Err fault) stage after d e
   later_err None some entry e after fault made same = absurd (cc some)
-  later_err (Some changes) some entry e after fault made same = steps_err stem want short_stem short above fits d e sound changes after fault same entry.0 entry.1 made
+  later_err (Some changes) some entry e after fault made same = steps_err stem want above fits d e sound changes after fault same entry made
 
 -- a call that changes nothing but the count of faults, before the way has begun
 pub unbegun : (X : Type 0) (stem : List ℕ) (want : PairValue) (d e : DeviceState) (stage : Option (List Change)) (fault : DevError) → is_none stage ≡ true → IsUnchanged d e → NamesAnswers {T = X} (Err fault) → HasDeviceCause {T = X} d e (Err fault) → StepsPair stem want (Err fault) stage stage d e
 unbegun X stem want d e (Some changes) fault none same answer cause = absurd (cc none)
 unbegun X stem want d e None fault none same answer cause = record {
-  answer = by_fault fault answer;
+  answer = pair_fault fault answer;
+  exact = λ value may. by_fault fault answer;
   goes = λ value may. record { leaves = λ tells. leaves value may tells; stage = tt };
+  made = λ changes is. absurd (cc is);
+  passed = λ changes is. absurd (cc is);
+  stage = tt;
   over = tt;
-  stands = tt;
+  stands = λ value may. tt;
   fewer = tt;
   refused = refl;
   only = unchanged_pair stem d e same;
+  rest = tt;
   cause = by_cause fault cause;
 }
   where
@@ -220,6 +273,13 @@ unbegun X stem want d e None fault none same answer cause = record {
     by_cause NoFile a = a
     by_cause Range a = a
     by_cause Memory a = a
+
+    pair_fault : (x : DevError) → NamesAnswers {T = X} (Err x) → PairAnswers {T = Bool} stem want None d (Err x)
+    pair_fault Failed a = tt
+    pair_fault Full a = absurd a
+    pair_fault NoFile a = absurd a
+    pair_fault Range a = absurd a
+    pair_fault Memory a = tt
 
     by_fault : (x : DevError) → NamesAnswers {T = X} (Err x) → StepAnswers {T = Bool} stem want None d (Err x)
     by_fault Failed a = tt

@@ -118,24 +118,24 @@ module _ {T : Type 0} (stem : List ℕ) (copy : ℕ) (old : Option PairValue) (w
             gates_are = gates_left f f' k gates first.0 (holds before).gates_are (done before);
             other = same_other turns.only gate (holds before).other;
           };
-        }) (told_ok (f'.now ≡ Some (set (bytes_of f.now) k 0)) (d.tells ≡ true) result turns.now),
+        }) (told_ok (f'.now ≡ Some (set (bytes_of f.now) k 0)) (d.tells ≡ true) result (turns.now first.1)),
       )
     where
       all_kept : (ks : List ℕ) → All (HasGate f) ks → All (HasGate f') ks
       all_kept [] all = λ i d lt. absurd (omega arith)
-      all_kept (j ∷ ks) all = All-cons (HasGate f') j ks (has_gate f f' j turns.len (All-head (HasGate f) j ks all)) (all_kept ks (All-tail (HasGate f) j ks all))
+      all_kept (j ∷ ks) all = All-cons (HasGate f') j ks (has_gate f f' j (turns.len (All-head (HasGate f) k gates has.0).1) (All-head (HasGate f) j ks all)) (all_kept ks (All-tail (HasGate f) j ks all))
 
   -- the body is written
   pub fill : (gate : Bool) → WritesBody (copy_name stem copy) (pair_body want) result d e → HasGates Filling gate f g → (d.tells ≡ true → FillingHolds copy old gate f g)
       → On (changes_at (copy_name stem copy) (copy_name stem (1 - copy)) gate Filled)
   fill gate writes has holds = (
-    safe (λ tells. let before = told_before writes.only tells in shut_either copy old want f' g' (writes.shut before) (same_other writes.only gate (holds before).other).before),
+    safe (λ tells. let before = told_before writes.only tells in shut_either copy old want f' g' (writes.shut (holds before).shut) (same_other writes.only gate (holds before).other).before),
     on_ok_weaker result (λ done. record {
       phase = Filled;
       gate = gate;
       changes_are = refl;
       gates = ((omega arith, longer f'.len done.0), λ is. same_gate writes.only (has is));
-      holds = λ tells. let before = told_before writes.only tells in record { shut = writes.shut before; body = done.1 before; other = same_other writes.only gate (holds before).other };
+      holds = λ tells. let before = told_before writes.only tells in record { shut = writes.shut (holds before).shut; body = done.1 before; other = same_other writes.only gate (holds before).other };
     }) (both_ok (IsSomeAnd f'.len (λ len. 16 + length (pair_body want) ≤ len)) (HasBody f'.now (pair_body want)) (d.tells ≡ true) result writes.len writes.whole),
   )
     where
@@ -165,7 +165,7 @@ module _ {T : Type 0} (stem : List ℕ) (copy : ℕ) (old : Option PairValue) (w
       → On (changes_at (copy_name stem copy) (copy_name stem (1 - copy)) gate Opened)
   turn gate turns has holds =
       let there = λ (tells : d.tells ≡ true). told_longer f 0 (sound.lengths tells (copy_name stem copy)) has.0.1 in
-      let keeps = λ (tells : d.tells ≡ true). gate_keeps_body 0 f f' (pair_body want) (omega arith) (holds tells).at_rest turns.torn (there tells).0 (there tells).1 (holds tells).body in
+      let keeps = λ (tells : d.tells ≡ true). gate_keeps_body 0 f f' (pair_body want) (omega arith) (holds tells).at_rest turns.torn (holds tells).body in
       let either = λ (tells : d.tells ≡ true). body_either copy old want f' g' above fits copy_is (keeps tells) (same_other turns.only gate (holds tells).other).before in (
         safe (λ tells. either (told_before turns.only tells)),
         on_ok_weaker result (λ done. record {
@@ -179,7 +179,7 @@ module _ {T : Type 0} (stem : List ℕ) (copy : ℕ) (old : Option PairValue) (w
                 (body_value want above fits (Some (set (bytes_of f.now) 0 open_gate_byte)) (body-set (bytes_of f.now) (pair_body want) 0 open_gate_byte (omega arith) (subst (λ (o : Option (List ℕ)). HasBody o (pair_body want)) (there before).0 (holds before).body)) (get_or-set_same (bytes_of f.now) 0 open_gate_byte 0 (there before).1)));
             found = (same_other turns.only gate (holds before).other).found;
           };
-        }) (told_ok (f'.now ≡ Some (set (bytes_of f.now) 0 open_gate_byte)) (d.tells ≡ true) result turns.now),
+        }) (told_ok (f'.now ≡ Some (set (bytes_of f.now) 0 open_gate_byte)) (d.tells ≡ true) result (turns.now has.0.1)),
       )
 
   shut_found : (o : Option (List ℕ)) → false ≡ is_open o 0 → ¬ IsOpen o 0
@@ -228,7 +228,7 @@ module _ {T : Type 0} (stem : List ℕ) (copy : ℕ) (old : Option PairValue) (w
       changes_are = refl;
       gates = tt;
       holds = λ tells. (stands tells, λ opens. absurd (let at : byte_at g'.now 0 ≡ 0 = ap (λ (o : Option (List ℕ)). byte_at o 0) (done (before tells)) ∙ get_or-set_same (bytes_of g.now) 0 0 0 (there (before tells)).1 in cc (at, opens)));
-    }) (told_ok (g'.now ≡ Some (set (bytes_of g.now) 0 0)) (d.tells ≡ true) result turns.now),
+    }) (told_ok (g'.now ≡ Some (set (bytes_of g.now) 0 0)) (d.tells ≡ true) result (turns.now has.1)),
   )
     where
       f_is : f' ≡ f

@@ -6,3 +6,4 @@ pub mod Changes
 pub mod PairStages
 pub mod Frames
 pub mod PairSteps
+pub mod PairNext

@@ -1,10 +1,10 @@
 -- How far a pair has come on its way to a wanted value, and what a stop may leave of it.
-use Rattle.std.specs.Prelude.{◌≡◌, ◌⊎◌, ◌<◌, ◌-◌, ◌==◌, if◌then◌else◌, ℕ, zero, suc, Bool, true, List, [], ◌∷◌, ◌++◌, take, All, Option, None, Some, IsSomeAnd}
+use Rattle.std.specs.Prelude.{◌≡◌, ◌⊎◌, ◌<◌, ◌-◌, ◌==◌, if◌then◌else◌, ℕ, zero, suc, Bool, true, List, [], ◌∷◌, ◌++◌, take, All, Option, None, Some}
 use Rattle.scr_base.specs.declared.change.Change.{Change}
-use Rattle.scr_base.specs.declared.change.Change.TheVariants.{Open, Close, Write, Sync}
+use Rattle.scr_base.specs.declared.change.Change.TheVariants.{Open, Close, Write, Sync, Remove}
 use Rattle.node_device.specs.File.{File, MayLeave, IsAtRest, bytes_of}
 use Rattle.node_device.specs.DeviceState.{DeviceState}
-use Rattle.gated_record.specs.Record.{HasBody, HasShutGates, IsOpen, is_open, open_gate_byte}
+use Rattle.gated_record.specs.Record.{HasBody, HasShutGates, HasPlace, IsOpen, is_open, open_gate_byte}
 use Rattle.gated_record.specs.Pair.{value_in, newer, copy_name, pair_body, copy_of, MayFollow}
 use Rattle.gated_record.specs.declared.pair.PairValue.{PairValue}
 
@@ -65,7 +65,7 @@ changes_at copy other is_open Over = []
 
 -- the file is there, and longer than this gate's place
 abbrev pub HasGate : File → ℕ → Type 0
-HasGate f gate = (gate < 8) × IsSomeAnd f.len (λ len. gate < len)
+HasGate f gate = (gate < 8) × HasPlace f gate
 
 -- the gates that are still to be turned are there, of the wanted value's copy and the other one
 abbrev pub HasGates : Phase → Bool → File → File → Type 0
@@ -158,3 +158,20 @@ pub record MayBegin (stem : List ℕ) (old : Option PairValue) (want : PairValue
 abbrev pub IsPairStage : List ℕ → Option PairValue → PairValue → DeviceState → Option (List Change) → Type 0
 IsPairStage stem old want d None = d.tells ≡ true → MayBegin stem old want d
 IsPairStage stem old want d (Some changes) = IsOnWay stem (copy_of want) old want d changes
+
+-- the name of one of the pair's two copies
+abbrev pub IsCopyName : List ℕ → List ℕ → Type 0
+IsCopyName stem name = (name ≡ copy_name stem 0) ⊎ (name ≡ copy_name stem 1)
+
+-- a change to the copies of the pair that may come on a way to a value
+abbrev pub IsChangeOf : List ℕ → Change → Type 0
+IsChangeOf stem (Open name gate) = IsCopyName stem name × (gate < 8)
+IsChangeOf stem (Close name gate) = IsCopyName stem name × (gate < 8)
+IsChangeOf stem (Write name) = IsCopyName stem name
+IsChangeOf stem Sync = Unit {0}
+IsChangeOf stem (Remove name) = ⊥
+
+-- A stage of this pair, whatever the device holds: it has made no change, or such changes are left.
+abbrev pub IsStageOf : List ℕ → Option (List Change) → Type 0
+IsStageOf stem None = Unit {0}
+IsStageOf stem (Some changes) = All (IsChangeOf stem) changes

@@ -4,15 +4,19 @@
 
 mod making;
 mod pair;
+mod pair_next;
 mod pair_steps;
 mod reading;
 mod record;
 
 pub use pair::{PairValue, pair_load};
+pub use pair_next::pair_next_step;
 pub use pair_steps::pair_step;
 pub use reading::{Record, load, read_record};
 pub use record::{Loaded, close_gate, open_gate, write_body};
 
+#[cfg(test)]
+mod next_tests;
 #[cfg(test)]
 mod pair_tests;
 #[cfg(test)]

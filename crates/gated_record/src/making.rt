@@ -1,5 +1,8 @@
 //! One change to a device, as a stage tells it.
+ghost use Rattle.std.specs.Prelude.{◌≤◌, length};
+ghost use Rattle.node_device.specs.DeviceState.{IsDeviceName};
 ghost use Rattle.gated_record.specs.Pair.{pair_body};
+ghost use Rattle.gated_record.specs.Calls.{WritesBody};
 ghost use Rattle.gated_record.specs.Changes.{MayMake, Makes};
 
 use crate::pair::PairValue;
@@ -15,17 +18,29 @@ pub(crate) fn make<D: Device>(
     change: &Change,
     want: &PairValue,
 ) -> Result<(), DevError>
-    requires { MayMake change.now (pair_body want.now) (D.state dev.old) }
+    requires { MayMake change.now (pair_body want.now) }
     ensures { Makes change.now (pair_body want.now) result (D.state dev.old) (D.state dev.new) }
 {
     match change {
         Change::Open { name, gate } => open_gate(dev, name.list(), *gate),
         Change::Close { name, gate } => close_gate(dev, name.list(), *gate),
-        Change::Write { name } => {
-            let body = want.framed(alloc)?;
-            write_body(alloc, dev, name.list(), body.list())
-        }
+        Change::Write { name } => fill(alloc, dev, name.list(), want),
         Change::Sync => dev.sync(),
         Change::Remove { name } => dev.remove(name.list()),
     }
+}
+
+/// Writes the body of the wanted value.
+fn fill<D: Device>(
+    alloc: Global,
+    dev: &mut D,
+    name: &[u8],
+    want: &PairValue,
+) -> Result<(), DevError>
+    requires name { IsDeviceName name.now }
+    requires short { length (pair_body want.now) ≤ 1048576 }
+    ensures { WritesBody name.now (pair_body want.now) result (D.state dev.old) (D.state dev.new) }
+{
+    let body = want.framed(alloc)?;
+    write_body(alloc, dev, name, body.list())
 }

@@ -5,7 +5,7 @@ ghost use Rattle.node_device.specs.DeviceState.{IsDeviceName, IsUnchanged};
 ghost use Rattle.node_device.specs.Answers.{HasDeviceCause, NamesAnswers};
 ghost use Rattle.gated_record.specs.Record.{is_open};
 ghost use Rattle.gated_record.specs.Pair.{copy_of, copy_name, pair_body};
-ghost use Rattle.gated_record.specs.PairStages.{IsPairStage, HasGate, closings, open_from, ending};
+ghost use Rattle.gated_record.specs.PairStages.{IsStageOf, HasGate, closings, open_from, ending};
 ghost use Rattle.gated_record.specs.PairSteps.{Closes, Begins, Finds, MayStep, StepMade, StepsPair};
 ghost use Rattle.scr_base.specs.declared.change.Change.{Change};
 ghost use Rattle.scr_base.specs.declared.change.Change.TheVariants.{Open, Write, Sync};
@@ -193,7 +193,7 @@ fn step<D: Device>(
     want: &PairValue,
     stage: &mut Stage,
 ) -> Result<(), DevError>
-    requires { MayStep stage.old (pair_body want.now) (D.state dev.old) }
+    requires { MayStep stage.old (pair_body want.now) }
     ensures made { StepMade stage.old (pair_body want.now) result (D.state dev.old) (D.state dev.new) }
     ensures passed { OnOk result (stage.new ≡ passed stage.old) }
     ensures refused { OnErr result (stage.new ≡ stage.old) }
@@ -211,10 +211,12 @@ fn step<D: Device>(
 }
 
 /// Makes one change, at most, towards a wanted value, from the value that stands or from none; true exactly where nothing is
-/// left to do: the wanted value stands, stable, and the other copy is shut, stable. Whatever a stop leaves, the old value
-/// stands or the wanted one. The changes come in this order: each open gate of the copy that the version belongs in is
-/// closed, gate 0 first; a sync; its body is written; a sync; its gate 0 is opened; a sync; the other copy's gate 0 is
-/// closed where it is open; a sync. `Failed`; `Full` exactly where the write of the body passes the capacity; `Memory`.
+/// left to do. The changes come in this order: each open gate of the copy that the version belongs in is closed, gate 0
+/// first; a sync; its body is written; a sync; its gate 0 is opened; a sync; the other copy's gate 0 is closed where it is
+/// open; a sync. A stage serves one pair and one wanted value alone. Where nothing else changed the pair's files since the
+/// stage was new, and every stop would have left the old value then: whatever a stop leaves, the old value stands or the
+/// wanted one, and at the end the wanted value stands, stable, and the other copy is shut, stable. `Failed`; `Full` where a
+/// write passes the capacity, there exactly that of the body; `Memory`.
 pub fn pair_step<D: Device>(
     alloc: Global,
     dev: &mut D,
@@ -225,7 +227,7 @@ pub fn pair_step<D: Device>(
     requires stem { length stem.now ≤ 158 }
     requires version { 1 ≤ want.now.version }
     requires short { length want.now.body ≤ 1048572 }
-    requires stage { (old : Option PairValue) × IsPairStage stem.now old want.now (D.state dev.old) stage.old }
+    requires stage { IsStageOf stem.now stage.old }
     ensures { StepsPair stem.now want.now result stage.old stage.new (D.state dev.old) (D.state dev.new) }
 {
     let copy = want.copy();
@@ -256,7 +258,6 @@ fn begin<D: Device>(
     requires fits { want.now.version < 2 ^ 32 }
     requires new { stage.old ≡ None }
     requires found { Finds stem.now (copy_of want.now) want.now (D.state dev.old) changes.items }
-    requires stage { (old : Option PairValue) × IsPairStage stem.now old want.now (D.state dev.old) stage.old }
     ensures { StepsPair stem.now want.now result stage.old stage.new (D.state dev.old) (D.state dev.new) }
 {
     let mut begun = Stage::new();

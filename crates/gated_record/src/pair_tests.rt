@@ -1,6 +1,5 @@
-ghost use Rattle.std.specs.Prelude.{◌≤◌, length, codes, true, Option};
-ghost use Rattle.gated_record.specs.PairStages.{IsPairStage};
-ghost use Rattle.gated_record.specs.declared.pair.PairValue.{PairValue};
+ghost use Rattle.std.specs.Prelude.{◌≤◌, length, codes};
+ghost use Rattle.gated_record.specs.PairStages.{IsStageOf};
 
 use crate::{PairValue, pair_load, pair_step};
 use node_device::{DevError, Device, MemDevice};
@@ -17,7 +16,7 @@ fn settle<D: Device>(
 ) -> Result<bool, DevError>
     requires version { 1 ≤ want.now.version }
     requires short { length want.now.body ≤ 1048572 }
-    requires stage { (old : Option PairValue) × IsPairStage (codes "run") old want.now (D.state dev.old) stage.old }
+    requires stage { IsStageOf (codes "run") stage.old }
 {
     let mut over = false;
     while !over {
@@ -53,7 +52,7 @@ fn stores_the_first_version(rt: HostRuntime) -> Result<(), Fail> {
     Ok(())
 }
 
-/// Makes so many calls towards the first version of a pair on an empty device.
+/// Makes so many calls towards a wanted value of the pair `run`.
 fn stepped<D: Device>(
     alloc: Global,
     dev: &mut D,
@@ -63,7 +62,8 @@ fn stepped<D: Device>(
 ) -> Result<(), DevError>
     requires version { 1 ≤ want.now.version }
     requires short { length want.now.body ≤ 1048572 }
-    requires stage { (old : Option PairValue) × IsPairStage (codes "run") old want.now (D.state dev.old) stage.old }
+    requires stage { IsStageOf (codes "run") stage.old }
+    ensures { IsStageOf (codes "run") stage.new }
 {
     for _ in 0..calls {
         pair_step(alloc, dev, b"run", want, stage)?;
@@ -84,6 +84,28 @@ fn stands_after(alloc: Global, calls: u8, pick: u8) -> Result<bool, DevError>
     stepped(alloc, &mut dev, &want, &mut stage, calls)?;
     dev.crash(pick);
     Ok(pair_load(alloc, &mut dev, b"run")?.is_some())
+}
+
+#[test]
+fn goes_on_over_another_device(rt: HostRuntime) -> Result<(), Fail> {
+    let alloc = rt.alloc();
+    let want = PairValue {
+        version: 1,
+        body: Bytes::of(Vec::new(alloc)),
+    };
+    let mut first = MemDevice::new(alloc, 100, Vec::new(alloc))?;
+    let mut stage = Stage::new();
+    stepped(alloc, &mut first, &want, &mut stage, 3)?;
+    let mut second = MemDevice::new(alloc, 100, Vec::new(alloc))?;
+    second.write(b"other", 0, b"kept")?;
+    let over = settle(alloc, &mut second, &want, &mut stage)?;
+    assert!(rt; over);
+    assert_eq!(rt; second.size(b"run.1"), Ok(1));
+    assert_eq!(rt; second.size(b"other"), Ok(4));
+    second.crash(1);
+    assert_eq!(rt; second.size(b"other"), Ok(4));
+    assert!(rt; pair_load(alloc, &mut second, b"run")?.is_none());
+    Ok(())
 }
 
 #[test]

@@ -1,9 +1,9 @@
 ghost use Rattle.std.specs.Prelude.{◌≡◌, ◌<◌, ◌≤◌, ◌+◌, ◌^◌, ◌++◌, ℕ, List, length, set, true, Some, OnOk, OnErr, IfOk, IsSomeAnd};
 ghost use Rattle.std.specs.Int.{to_be_bytes, w64};
 ghost use Rattle.node_device.specs.File.{IsAtRest, Torn, bytes_of};
-ghost use Rattle.node_device.specs.DeviceState.{IsDeviceName, IsUnchanged, ChangesOnly, ReadsAlike};
-ghost use Rattle.node_device.specs.Answers.{HasDeviceCause, SyncAnswers, NamesAnswers};
-ghost use Rattle.gated_record.specs.Record.{HasBody, HasShutGates, KeepsBody, IsOpen, BodyAnswers, gates_of, open_gate_byte};
+ghost use Rattle.node_device.specs.DeviceState.{IsDeviceName, IsUnchanged, ChangesOnly, ReadsAlike, used_of};
+ghost use Rattle.node_device.specs.Answers.{HasDeviceCause, WriteAnswers, SyncAnswers, NamesAnswers};
+ghost use Rattle.gated_record.specs.Record.{HasBody, HasShutGates, HasPlace, KeepsBody, IsOpen, BodyAnswers, gates_of, open_gate_byte};
 
 use node_device::{DevError, Device};
 use scr_base::Bytes;
@@ -37,7 +37,7 @@ fn framed(alloc: Global, body: &[u8]) -> Result<Vec<u8>, AllocError>
     Ok(all)
 }
 
-/// Writes the body of a record whose gates are shut, by one write. They stay shut. `Failed`; `Full` exactly where the
+/// Writes the body of a record, by one write. Where its gates are shut, they stay shut. `Failed`; `Full` exactly where the
 /// write passes the capacity; `Memory`.
 pub fn write_body<D: Device>(
     alloc: Global,
@@ -47,11 +47,10 @@ pub fn write_body<D: Device>(
 ) -> Result<(), DevError>
     requires name { IsDeviceName name.now }
     requires size { length body.now ≤ 1048576 }
-    requires shut { (D.state dev.old).tells ≡ true → HasShutGates ((D.state dev.old).file name.now) }
     ensures answer { BodyAnswers (D.state dev.old) name.now (length body.now) result }
     ensures body { (D.state dev.old).tells ≡ true → OnOk result (HasBody ((D.state dev.new).file name.now).now body.now) }
     ensures len { OnOk result (IsSomeAnd ((D.state dev.new).file name.now).len (λ len. 16 + length body.now ≤ len)) }
-    ensures shut { (D.state dev.old).tells ≡ true → HasShutGates ((D.state dev.new).file name.now) }
+    ensures shut { HasShutGates ((D.state dev.old).file name.now) → HasShutGates ((D.state dev.new).file name.now) }
     ensures torn { Torn 8 (8 + length body.now) ((D.state dev.old).file name.now) ((D.state dev.new).file name.now) }
     ensures refused { OnErr result (ReadsAlike (D.state dev.old) (D.state dev.new)) }
     ensures only { ChangesOnly name.now (D.state dev.old) (D.state dev.new) }
@@ -61,16 +60,18 @@ pub fn write_body<D: Device>(
     dev.write(name, 8, &all)
 }
 
-/// Opens a gate, by one write of one byte. `Failed` alone. Where the body was stable before, a stop leaves it whole.
+/// Opens a gate, by one write of one byte. Where the body was whole and stable before, a stop leaves it whole. Where the file
+/// is longer than the gate's place, `Failed` alone. Elsewhere the write makes the file as long as that: `Full` exactly where
+/// that passes the capacity; `Memory`.
 pub fn open_gate<D: Device>(dev: &mut D, name: &[u8], gate: u8) -> Result<(), DevError>
     requires name { IsDeviceName name.now }
     requires gate { gate < 8 }
-    requires there { IsSomeAnd ((D.state dev.old).file name.now).len (λ len. gate < len) }
-    ensures answer { SyncAnswers result }
-    ensures len { ((D.state dev.new).file name.now).len ≡ ((D.state dev.old).file name.now).len }
-    ensures now { (D.state dev.old).tells ≡ true → OnOk result (((D.state dev.new).file name.now).now ≡ Some (set (bytes_of ((D.state dev.old).file name.now).now) gate open_gate_byte)) }
+    ensures answer { WriteAnswers ((D.state dev.old).file name.now) (used_of (D.state dev.old)) (D.state dev.old).capacity gate 1 result }
+    ensures failed_alone { HasPlace ((D.state dev.old).file name.now) gate → SyncAnswers result }
+    ensures len { HasPlace ((D.state dev.old).file name.now) gate → ((D.state dev.new).file name.now).len ≡ ((D.state dev.old).file name.now).len }
+    ensures now { HasPlace ((D.state dev.old).file name.now) gate → (D.state dev.old).tells ≡ true → OnOk result (((D.state dev.new).file name.now).now ≡ Some (set (bytes_of ((D.state dev.old).file name.now).now) gate open_gate_byte)) }
     ensures torn { Torn gate 1 ((D.state dev.old).file name.now) ((D.state dev.new).file name.now) }
-    ensures kept { (D.state dev.old).tells ≡ true → IsAtRest ((D.state dev.old).file name.now) → (body : List ℕ) → HasBody ((D.state dev.old).file name.now).now body → KeepsBody ((D.state dev.new).file name.now) body }
+    ensures kept { IsAtRest ((D.state dev.old).file name.now) → (body : List ℕ) → HasBody ((D.state dev.old).file name.now).now body → KeepsBody ((D.state dev.new).file name.now) body }
     ensures refused { OnErr result (ReadsAlike (D.state dev.old) (D.state dev.new)) }
     ensures only { ChangesOnly name.now (D.state dev.old) (D.state dev.new) }
     ensures cause { HasDeviceCause (D.state dev.old) (D.state dev.new) result }
@@ -78,16 +79,18 @@ pub fn open_gate<D: Device>(dev: &mut D, name: &[u8], gate: u8) -> Result<(), De
     dev.write(name, gate as u64, &[OPEN])
 }
 
-/// Closes a gate, by one write of one byte. `Failed` alone. Where the body was stable before, a stop leaves it whole.
+/// Closes a gate, by one write of one byte. Where the body was whole and stable before, a stop leaves it whole. Where the file
+/// is longer than the gate's place, `Failed` alone. Elsewhere the write makes the file as long as that: `Full` exactly where
+/// that passes the capacity; `Memory`.
 pub fn close_gate<D: Device>(dev: &mut D, name: &[u8], gate: u8) -> Result<(), DevError>
     requires name { IsDeviceName name.now }
     requires gate { gate < 8 }
-    requires there { IsSomeAnd ((D.state dev.old).file name.now).len (λ len. gate < len) }
-    ensures answer { SyncAnswers result }
-    ensures len { ((D.state dev.new).file name.now).len ≡ ((D.state dev.old).file name.now).len }
-    ensures now { (D.state dev.old).tells ≡ true → OnOk result (((D.state dev.new).file name.now).now ≡ Some (set (bytes_of ((D.state dev.old).file name.now).now) gate 0)) }
+    ensures answer { WriteAnswers ((D.state dev.old).file name.now) (used_of (D.state dev.old)) (D.state dev.old).capacity gate 1 result }
+    ensures failed_alone { HasPlace ((D.state dev.old).file name.now) gate → SyncAnswers result }
+    ensures len { HasPlace ((D.state dev.old).file name.now) gate → ((D.state dev.new).file name.now).len ≡ ((D.state dev.old).file name.now).len }
+    ensures now { HasPlace ((D.state dev.old).file name.now) gate → (D.state dev.old).tells ≡ true → OnOk result (((D.state dev.new).file name.now).now ≡ Some (set (bytes_of ((D.state dev.old).file name.now).now) gate 0)) }
     ensures torn { Torn gate 1 ((D.state dev.old).file name.now) ((D.state dev.new).file name.now) }
-    ensures kept { (D.state dev.old).tells ≡ true → IsAtRest ((D.state dev.old).file name.now) → (body : List ℕ) → HasBody ((D.state dev.old).file name.now).now body → KeepsBody ((D.state dev.new).file name.now) body }
+    ensures kept { IsAtRest ((D.state dev.old).file name.now) → (body : List ℕ) → HasBody ((D.state dev.old).file name.now).now body → KeepsBody ((D.state dev.new).file name.now) body }
     ensures refused { OnErr result (ReadsAlike (D.state dev.old) (D.state dev.new)) }
     ensures only { ChangesOnly name.now (D.state dev.old) (D.state dev.new) }
     ensures cause { HasDeviceCause (D.state dev.old) (D.state dev.new) result }

@@ -100,3 +100,17 @@ fn closes_a_gate(rt: HostRuntime) -> Result<(), Fail> {
     }
     Ok(())
 }
+
+#[test]
+fn makes_a_place_for_a_gate(rt: HostRuntime) -> Result<(), Fail> {
+    let alloc = rt.alloc();
+    for (capacity, want) in [(4, Ok(())), (3, Err(DevError::Full))] {
+        let mut dev = MemDevice::new(alloc, capacity, Vec::new(alloc))?;
+        let done = open_gate(&mut dev, b"r", 3);
+        assert_eq!(rt; done, want, "opens at {capacity}");
+        let mut dev = MemDevice::new(alloc, capacity, Vec::new(alloc))?;
+        let done = close_gate(&mut dev, b"r", 3);
+        assert_eq!(rt; done, want, "closes at {capacity}");
+    }
+    Ok(())
+}

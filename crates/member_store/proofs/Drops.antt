@@ -1,19 +1,20 @@
 -- The removal of a member's files, from what is left of them.
 use Rattle.std.proofs.Common.{◌≡◌, ◌≢◌, inl, inr, ◌<◌, ◌+◌, ◌^◌, ℕ, zero, suc, Bool, true, false, List, [], ◌∷◌, map, length, get_or, Option, None, Some, refl, sym, ◌∙◌, ap, subst, arith}
-use Rattle.std.specs.Prelude.{Result, Ok, Err, OnOk, OnErr, IfOk, IsSome, Contains, is_none, ◌↔◌}
+use Rattle.std.specs.Prelude.{All, Result, Ok, Err, OnOk, OnErr, IfOk, IsSome, Contains, is_none, ◌↔◌}
 use Rattle.scr_base.specs.declared.shape.DataId.{DataId}
 use Rattle.scr_base.specs.declared.change.Change.{Change}
 use Rattle.scr_base.specs.declared.change.Change.TheVariants.{Remove}
 use Rattle.scr_base.specs.Stages.{left, passed, is_over}
 use Rattle.node_device.specs.File.{File}
-use Rattle.node_device.specs.DeviceState.{DeviceState, IsUnchanged, IsSound, ChangesOnly}
+use Rattle.node_device.specs.DeviceState.{DeviceState, IsUnchanged, ChangesOnly}
 use Rattle.node_device.specs.Answers.{NamesAnswers, RemoveAnswers}
 use Rattle.node_device.specs.declared.device.DevError.{DevError}
 use Rattle.node_device.specs.declared.device.DevError.TheVariants.{Failed, Full, NoFile, Range, Memory}
-use Rattle.member_store.specs.Names.{record_name, part_name, IsPart}
-use Rattle.member_store.specs.Calls.{HasNoFile, AreFilesOf, IsDropStage, Drops}
+use Rattle.member_store.specs.Names.{record_name, part_name, IsPart, IsPlace, IsNameOf}
+use Rattle.member_store.specs.Calls.{HasNoFile, AreFilesOf, IsDropStage, IsDropStageOf, DropAnswers, Drops}
 use Rattle.member_store.specs.DropSteps.{MayRemoveNext, RemovesNext}
 use Rattle.member_store.specs.declared.part.Part.{Part}
+use Rattle.member_store.proofs.Lengths.{device_named}
 
 none_or_some : (o : Option ℕ) → (IsSome o → ⊥) → o ≡ None
 none_or_some None no_len = refl
@@ -23,7 +24,24 @@ not_both : (o : Option ℕ) → o ≡ None → IsSome o → ⊥
 not_both None none some = absurd (cc some)
 not_both (Some len) none some = absurd (cc none)
 
+-- removals tell the names
+same_names : (xs ys : List (List ℕ)) → map Remove xs ≡ map Remove ys → xs ≡ ys
+same_names [] [] is = refl
+same_names [] (y ∷ ys) is = absurd (cc is)
+same_names (x ∷ xs) [] is = absurd (cc is)
+same_names (x ∷ xs) (y ∷ ys) is =
+    let first : x ≡ y = cc is in
+    let later : map Remove xs ≡ map Remove ys = cc is in
+    ap (λ (h : List ℕ). h ∷ xs) first ∙ ap (λ (t : List (List ℕ)). y ∷ t) (same_names xs ys later)
+
 module _ (which : DataId) (node : ℕ) where
+  -- the files that a stage of these names knows
+  files_of : (d : DeviceState) (names : List (List ℕ)) → IsDropStage which node d (Some (map Remove names)) → AreFilesOf which node d names
+  files_of d names stage = subst (λ (l : List (List ℕ)). AreFilesOf which node d l) (sym (same_names names stage.0 stage.1)) stage.2
+
+  pub names_of : (d : DeviceState) (names : List (List ℕ)) → AreFilesOf which node d names → All (IsNameOf which node) names
+  names_of d names files = λ i x lt. (files.there i x lt).0
+
   -- nothing is left exactly where no file is there
   pub over_is : (d : DeviceState) (names : List (List ℕ)) → AreFilesOf which node d names → (is_over (Some (map Remove names)) ≡ true) ↔ HasNoFile which node d
   over_is d [] files = (
@@ -73,50 +91,69 @@ module _ (which : DataId) (node : ℕ) where
   unchanged_record : (d e : DeviceState) → IsUnchanged d e → (e.file (record_name which node)).len ≡ (d.file (record_name which node)).len
   unchanged_record d e same = ap (λ (s : DeviceState). (s.file (record_name which node)).len) same
 
-  pub may_next : (d : DeviceState) (names : List (List ℕ)) → IsSound d → AreFilesOf which node d names → MayRemoveNext (Some (map Remove names))
-  may_next d [] sound files = tt
-  may_next d (n ∷ names) sound files = let first = files.there 0 [] (omega arith) in (n, refl, sound.named n first.1)
+  pub may_next : IsPlace which node → (names : List (List ℕ)) → All (IsNameOf which node) names → MayRemoveNext (Some (map Remove names))
+  may_next place [] all = tt
+  may_next place (n ∷ names) all = (n, refl, device_named which node place n (all 0 [] (omega arith)))
 
   -- the file that comes next is removed
-  pub step_done : (d e : DeviceState) (names : List (List ℕ)) (over : Bool) → over ≡ is_over (passed (Some (map Remove names))) → AreFilesOf which node d names → RemovesNext {T = Bool} (Some (map Remove names)) (Ok over) d e → Drops which node (Ok over) (Some (map Remove names)) (passed (Some (map Remove names))) d e
-  step_done d e [] over told files (same, ok, cause) = record {
-    answer = tt;
-    over = subst (λ (o : Bool). (o ≡ true) ↔ HasNoFile which node e) (sym told) (over_is e [] (unchanged_files d e [] same files));
-    removed = inr ((over_is d [] files).0 refl, same);
-    record_last = λ part fits some. unchanged_record d e same;
+  step_done : (d e : DeviceState) (names : List (List ℕ)) (over : Bool) → over ≡ is_over (passed (Some (map Remove names))) → All (IsNameOf which node) names → RemovesNext {T = Bool} (Some (map Remove names)) (Ok over) d e → Drops which node (Ok over) (Some (map Remove names)) (passed (Some (map Remove names))) d e
+  step_done d e [] over told all (same, ok, cause) = record {
+    answer = λ name is. absurd (cc is);
+    exact = λ stage. tt;
+    over = told;
+    none_left = λ stage. subst (λ (o : Bool). (o ≡ true) ↔ HasNoFile which node e) (sym told) (over_is e [] (unchanged_files d e [] same (files_of d [] stage)));
+    at_most = inr same;
+    removed = λ stage. inr ((over_is d [] (files_of d [] stage)).0 refl, same);
+    record_last = λ stage part fits some. unchanged_record d e same;
     fewer = λ is. absurd (cc (is, told));
-    stage = ([], refl, unchanged_files d e [] same files);
+    stage = ([], refl, all);
+    goes = λ stage. ([], refl, unchanged_files d e [] same (files_of d [] stage));
     refused = tt;
     cause = cause;
   }
-  step_done d e (n ∷ names) over told files removes =
+  step_done d e (n ∷ names) over told all removes =
       let made = removes n refl in
-      let left_files = files_left d e n names files made.removed.len made.only in record {
-        answer = tt;
-        over = subst (λ (o : Bool). (o ≡ true) ↔ HasNoFile which node e) (sym told) (over_is e names left_files);
-        removed = inl (n, record { there = files.there 0 [] (omega arith); removed = made.removed; only = made.only });
-        record_last = record_kept d e n names files made.removed.len made.only;
+      let left_files = λ (stage : IsDropStage which node d (Some (map Remove (n ∷ names)))). files_left d e n names (files_of d (n ∷ names) stage) made.removed.len made.only in record {
+        answer = λ name is. let same : n ≡ name = cc is in subst (λ (x : List ℕ). IsSome (d.file x).len) same made.answer;
+        exact = λ stage. tt;
+        over = told;
+        none_left = λ stage. subst (λ (o : Bool). (o ≡ true) ↔ HasNoFile which node e) (sym told) (over_is e names (left_files stage));
+        at_most = inl (n, record { there = (all 0 [] (omega arith), made.answer); removed = made.removed; only = made.only });
+        removed = λ stage. inl (n, record { there = (all 0 [] (omega arith), made.answer); removed = made.removed; only = made.only });
+        record_last = λ stage. record_kept d e n names (files_of d (n ∷ names) stage) made.removed.len made.only;
         fewer = λ is. omega arith;
-        stage = (names, refl, left_files);
+        stage = (names, refl, λ i x lt. all (suc i) x (omega (arith, lt)));
+        goes = λ stage. (names, refl, left_files stage);
         refused = tt;
         cause = made.cause;
       }
 
   -- or that is refused
-  pub step_refused : (d e : DeviceState) (names : List (List ℕ)) (fault : DevError) → AreFilesOf which node d names → RemovesNext {T = Bool} (Some (map Remove names)) (Err fault) d e → Drops which node (Err fault) (Some (map Remove names)) (Some (map Remove names)) d e
-  step_refused d e [] fault files (same, ok, cause) = absurd (cc ok)
-  step_refused d e (n ∷ names) fault files removes =
+  step_refused : (d e : DeviceState) (names : List (List ℕ)) (fault : DevError) → All (IsNameOf which node) names → RemovesNext {T = Bool} (Some (map Remove names)) (Err fault) d e → Drops which node (Err fault) (Some (map Remove names)) (Some (map Remove names)) d e
+  step_refused d e [] fault all (same, ok, cause) = absurd (cc ok)
+  step_refused d e (n ∷ names) fault all removes =
       let made = removes n refl in record {
-        answer = by_fault fault (files.there 0 [] (omega arith)).1 made.answer;
+        answer = by_answer fault made.answer;
+        exact = λ stage. by_fault fault ((files_of d (n ∷ names) stage).there 0 [] (omega arith)).1 made.answer;
         over = tt;
-        removed = tt;
-        record_last = λ part fits some. unchanged_record d e made.refused;
+        none_left = λ stage. tt;
+        at_most = tt;
+        removed = λ stage. tt;
+        record_last = λ stage part fits some. unchanged_record d e made.refused;
         fewer = tt;
-        stage = (n ∷ names, refl, unchanged_files d e (n ∷ names) made.refused files);
+        stage = (n ∷ names, refl, all);
+        goes = λ stage. (n ∷ names, refl, unchanged_files d e (n ∷ names) made.refused (files_of d (n ∷ names) stage));
         refused = (refl, made.refused);
         cause = made.cause;
       }
     where
+      by_answer : (x : DevError) → RemoveAnswers {T = Bool} (d.file n) (Err x) → DropAnswers {T = Bool} (Some (map Remove (n ∷ names))) d (Err x)
+      by_answer Failed a = tt
+      by_answer Full a = absurd a
+      by_answer NoFile a = (n, refl, a)
+      by_answer Range a = absurd a
+      by_answer Memory a = tt
+
       by_fault : (x : DevError) → IsSome (d.file n).len → RemoveAnswers {T = Bool} (d.file n) (Err x) → NamesAnswers {T = Bool} (Err x)
       by_fault Failed there a = tt
       by_fault Full there a = absurd a
@@ -126,26 +163,37 @@ module _ (which : DataId) (node : ℕ) where
 
   -- ## the calls, from what their parts say
 
-  over_after : (d e : DeviceState) (changes : List Change) (names : List (List ℕ)) → changes ≡ map Remove names → AreFilesOf which node d names → (after : Option (List Change)) (over : Bool) → RemovesNext {T = Bool} (Some changes) (Ok over) d e → after ≡ passed (Some changes) → over ≡ is_over after → Drops which node (Ok over) (Some changes) after d e
-  over_after d e changes names is files after over removes after_is told =
+  over_after : (d e : DeviceState) (changes : List Change) → IsDropStageOf which node (Some changes) → (after : Option (List Change)) (over : Bool) → RemovesNext {T = Bool} (Some changes) (Ok over) d e → after ≡ passed (Some changes) → over ≡ is_over after → Drops which node (Ok over) (Some changes) after d e
+  over_after d e changes entry after over removes after_is told =
       subst (λ (a : Option (List Change)). Drops which node (Ok over) (Some changes) a d e) (sym after_is)
-      (subst (λ (l : List Change). Drops which node (Ok over) (Some l) (passed (Some l)) d e) (sym is)
-      (step_done d e names over (told ∙ ap is_over after_is ∙ ap (λ (l : List Change). is_over (passed (Some l))) is) files (subst (λ (l : List Change). RemovesNext {T = Bool} (Some l) (Ok over) d e) is removes)))
+      (subst (λ (l : List Change). Drops which node (Ok over) (Some l) (passed (Some l)) d e) (sym entry.1)
+      (step_done d e entry.0 over (told ∙ ap is_over after_is ∙ ap (λ (l : List Change). is_over (passed (Some l))) entry.1) entry.2 (subst (λ (l : List Change). RemovesNext {T = Bool} (Some l) (Ok over) d e) entry.1 removes)))
 
-  refused_after : (d e : DeviceState) (changes : List Change) (names : List (List ℕ)) → changes ≡ map Remove names → AreFilesOf which node d names → (fault : DevError) → RemovesNext {T = Bool} (Some changes) (Err fault) d e → Drops which node (Err fault) (Some changes) (Some changes) d e
-  refused_after d e changes names is files fault removes =
-      subst (λ (l : List Change). Drops which node (Err fault) (Some l) (Some l) d e) (sym is)
-      (step_refused d e names fault files (subst (λ (l : List Change). RemovesNext {T = Bool} (Some l) (Err fault) d e) is removes))
+  refused_after : (d e : DeviceState) (changes : List Change) → IsDropStageOf which node (Some changes) → (fault : DevError) → RemovesNext {T = Bool} (Some changes) (Err fault) d e → Drops which node (Err fault) (Some changes) (Some changes) d e
+  refused_after d e changes entry fault removes =
+      subst (λ (l : List Change). Drops which node (Err fault) (Some l) (Some l) d e) (sym entry.1)
+      (step_refused d e entry.0 fault entry.2 (subst (λ (l : List Change). RemovesNext {T = Bool} (Some l) (Err fault) d e) entry.1 removes))
 
   -- a later call
-  pub later_may : (d : DeviceState) (stage : Option (List Change)) → IsSound d → is_none stage ≡ false → IsDropStage which node d stage → MayRemoveNext stage
-  later_may d None sound some entry = absurd (cc some)
-  later_may d (Some changes) sound some entry = subst (λ (l : List Change). MayRemoveNext (Some l)) (sym entry.1) (may_next d entry.0 sound entry.2)
+  pub later_may : IsPlace which node → (stage : Option (List Change)) → is_none stage ≡ false → IsDropStageOf which node stage → MayRemoveNext stage
+  later_may place None some entry = absurd (cc some)
+  later_may place (Some changes) some entry = subst (λ (l : List Change). MayRemoveNext (Some l)) (sym entry.1) (may_next place entry.0 entry.2)
 
-  pub later : (d e : DeviceState) (stage after : Option (List Change)) (result : Result Bool DevError) → is_none stage ≡ false → IsDropStage which node d stage → RemovesNext stage result d e → OnOk result (after ≡ passed stage) → IfOk result (λ over. over ≡ is_over after) → OnErr result (after ≡ stage) → Drops which node result stage after d e
+  pub later : (d e : DeviceState) (stage after : Option (List Change)) (result : Result Bool DevError) → is_none stage ≡ false → IsDropStageOf which node stage → RemovesNext stage result d e → OnOk result (after ≡ passed stage) → IfOk result (λ over. over ≡ is_over after) → OnErr result (after ≡ stage) → Drops which node result stage after d e
   later d e None after result some entry removes after_is told same = absurd (cc some)
-  later d e (Some changes) after (Ok over) some entry removes after_is told same = over_after d e changes entry.0 entry.1 entry.2 after over removes after_is told
-  later d e (Some changes) after (Err fault) some entry removes after_is told same = subst (λ (a : Option (List Change)). Drops which node (Err fault) (Some changes) a d e) (sym same) (refused_after d e changes entry.0 entry.1 entry.2 fault removes)
+  later d e (Some changes) after (Ok over) some entry removes after_is told same = over_after d e changes entry after over removes after_is told
+  later d e (Some changes) after (Err fault) some entry removes after_is told same = subst (λ (a : Option (List Change)). Drops which node (Err fault) (Some changes) a d e) (sym same) (refused_after d e changes entry fault removes)
+
+  new_stage : (s : Option (List Change)) → is_none s ≡ true → s ≡ None
+  new_stage None is = refl
+  new_stage (Some l) is = absurd (cc is)
+
+  at_none : (d : DeviceState) (fault : DevError) → NamesAnswers {T = Bool} (Err fault) → DropAnswers {T = Bool} None d (Err fault)
+  at_none d Failed a = tt
+  at_none d Full a = absurd a
+  at_none d NoFile a = absurd a
+  at_none d Range a = absurd a
+  at_none d Memory a = tt
 
   -- a first call whose files were found
   module _ (c d e : DeviceState) (stage fresh : Option (List Change)) (is_new : is_none stage ≡ true) (changes : List Change) (is_begun : fresh ≡ Some changes) (few : left fresh < 2 ^ 64)
@@ -153,21 +201,24 @@ module _ (which : DataId) (node : ℕ) where
     back : d ≡ c
     back = same ∙ ap (λ (n : ℕ). record c { faults = n }) faults
 
-    pub first_may : IsSound c → MayRemoveNext fresh
-    first_may sound = subst MayRemoveNext (sym is_begun) (later_may c (Some changes) sound refl found)
+    named : IsDropStageOf which node (Some changes)
+    named = (found.0, found.1, names_of c found.0 found.2)
 
-    new_stage : (s : Option (List Change)) → is_none s ≡ true → s ≡ None
-    new_stage None is = refl
-    new_stage (Some l) is = absurd (cc is)
+    pub first_may : IsPlace which node → MayRemoveNext fresh
+    first_may place = subst MayRemoveNext (sym is_begun) (later_may place (Some changes) refl named)
 
     at_first : (over : Bool) (after : Option (List Change)) → left (Some changes) < 2 ^ 64 → Drops which node (Ok over) (Some changes) after c e → Drops which node (Ok over) None after c e
     at_first over after few_changes drops = record {
-      answer = drops.answer;
+      answer = λ name is. absurd (cc is);
+      exact = λ stage. tt;
       over = drops.over;
-      removed = drops.removed;
-      record_last = drops.record_last;
+      none_left = λ stage. drops.none_left found;
+      at_most = drops.at_most;
+      removed = λ stage. drops.removed found;
+      record_last = λ stage. drops.record_last found;
       fewer = λ is. let less = drops.fewer is in omega (arith, less, few_changes);
       stage = drops.stage;
+      goes = λ stage. drops.goes found;
       refused = tt;
       cause = drops.cause;
     }
@@ -176,18 +227,22 @@ module _ (which : DataId) (node : ℕ) where
     first_done after over removes after_is over_is =
         subst (λ (s : Option (List Change)). Drops which node (Ok over) s after c e) (sym (new_stage stage is_new))
         (at_first over after (subst (λ (s : Option (List Change)). left s < 2 ^ 64) is_begun few)
-        (over_after c e changes found.0 found.1 found.2 after over
+        (over_after c e changes named after over
         (subst (λ (s : Option (List Change)). RemovesNext {T = Bool} s (Ok over) c e) is_begun (subst (λ (s : DeviceState). RemovesNext {T = Bool} fresh (Ok over) s e) back removes))
         (after_is ∙ ap passed is_begun) over_is))
 
     at_first_refused : (fault : DevError) → Drops which node (Err fault) (Some changes) (Some changes) c e → Drops which node (Err fault) None None c e
     at_first_refused fault drops = record {
-      answer = drops.answer;
+      answer = at_none c fault (drops.exact found);
+      exact = λ stage. drops.exact found;
       over = tt;
-      removed = tt;
-      record_last = drops.record_last;
+      none_left = λ stage. tt;
+      at_most = tt;
+      removed = λ stage. tt;
+      record_last = λ stage. drops.record_last found;
       fewer = tt;
       stage = tt;
+      goes = λ stage. tt;
       refused = (refl, drops.refused.1);
       cause = drops.cause;
     }
@@ -195,5 +250,5 @@ module _ (which : DataId) (node : ℕ) where
     pub first_refused : (fault : DevError) → RemovesNext {T = Bool} fresh (Err fault) d e → Drops which node (Err fault) stage stage c e
     first_refused fault removes =
         subst (λ (s : Option (List Change)). Drops which node (Err fault) s s c e) (sym (new_stage stage is_new))
-        (at_first_refused fault (refused_after c e changes found.0 found.1 found.2 fault
+        (at_first_refused fault (refused_after c e changes named fault
         (subst (λ (s : Option (List Change)). RemovesNext {T = Bool} s (Err fault) c e) is_begun (subst (λ (s : DeviceState). RemovesNext {T = Bool} fresh (Err fault) s e) back removes))))

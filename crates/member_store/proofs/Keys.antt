@@ -1,6 +1,6 @@
 -- A tree with the keys of a member's record, key by key.
-use Rattle.std.proofs.Common.{◌≡◌, ◌≢◌, ◌<◌, ◌≤◌, ◌*◌, ◌^◌, ℕ, suc, List, Option, None, Some, refl, sym, ap, ◌∙◌, subst, arith, codes}
-use Rattle.std.specs.Prelude.{decimal, IsTrue}
+use Rattle.std.proofs.Common.{◌≡◌, ◌<◌, ◌≤◌, ◌*◌, ◌^◌, ℕ, suc, List, Some, sym, ap, ◌∙◌, arith, codes}
+use Rattle.std.specs.Prelude.{decimal}
 use Rattle.std.proofs.lemmas.Fmt.{decimal_injective}
 use Rattle.std.proofs.Math.Nat.{le-mul_of_pos_right}
 use Rattle.std.proofs.lemmas.Bool.Decides.{nat_tests}
@@ -12,7 +12,7 @@ use Rattle.dataset_desc.specs.Descs.{HasParts}
 use Rattle.dataset_desc.specs.declared.desc.Desc.{Desc}
 use Rattle.filemap.specs.Maps.{map_tree}
 use Rattle.filemap.specs.declared.rows.FileRow.{FileRow}
-use Rattle.member_store.specs.Trees.{record_tree, HasKeys, Says}
+use Rattle.member_store.specs.Trees.{HasKeys, Says}
 use Rattle.member_store.specs.declared.tree.Found.{Found}
 
 one_less : (t : Entries) (n : ℕ) → width t ≡ suc n → width (rest_of t) ≡ n

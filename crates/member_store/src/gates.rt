@@ -1,10 +1,8 @@
 //! The record of a member and its gates.
-ghost use Rattle.std.specs.Prelude.{◌≡◌, ◌<◌, ◌≤◌, ◌*◌, true, IsSomeAnd, length};
+ghost use Rattle.std.specs.Prelude.{◌≡◌, ◌<◌, ◌≤◌, ◌*◌, length};
 ghost use Rattle.node_device.specs.DeviceState.{IsDeviceName};
 ghost use Rattle.gated_record.specs.Calls.{WritesBody, TurnsGate};
-ghost use Rattle.gated_record.specs.Record.{HasShutGates};
 ghost use Rattle.member_store.specs.Members.{member_body};
-ghost use Rattle.member_store.specs.Names.{record_name};
 ghost use Rattle.member_store.specs.Calls.{WritesMember, SetsGate, gate_number, gate_byte};
 
 use crate::device_name::DeviceName;
@@ -37,8 +35,8 @@ impl MemberGate {
     }
 }
 
-/// Writes the body of a member's record, by one write. Its gates are shut, and stay so. `Failed`; `Full` exactly where the
-/// write passes the capacity; `Memory`.
+/// Writes the body of a member's record, by one write. Where its gates are shut, they stay so. `Failed`; `Full` exactly
+/// where the write passes the capacity; `Memory`.
 pub fn write_member<D: Device>(
     alloc: Global,
     dev: &mut D,
@@ -47,7 +45,6 @@ pub fn write_member<D: Device>(
     desc: &Desc,
     files: &Filemap,
 ) -> Result<(), DevError>
-    requires shut { (D.state dev.old).tells ≡ true → HasShutGates ((D.state dev.old).file (record_name which node)) }
     requires which { desc.now.which ≡ which }
     requires node { node < desc.now.nodes }
     requires ranks { length files.now ≡ desc.now.nodes * desc.now.ranks }
@@ -58,17 +55,18 @@ pub fn write_member<D: Device>(
     fill(alloc, dev, name.bytes(), body.list())
 }
 
-/// Writes the body of a record whose gates are shut.
+/// Writes the body of a record.
 fn fill<D: Device>(alloc: Global, dev: &mut D, name: &[u8], body: &[u8]) -> Result<(), DevError>
     requires name { IsDeviceName name.now }
     requires size { length body.now ≤ 1048576 }
-    requires shut { (D.state dev.old).tells ≡ true → HasShutGates ((D.state dev.old).file name.now) }
     ensures { WritesBody name.now body.now result (D.state dev.old) (D.state dev.new) }
 {
     write_body(alloc, dev, name, body)
 }
 
-/// Opens a gate of a member's record, or closes it, by one write of one byte. It takes no memory. `Failed` alone.
+/// Opens a gate of a member's record, or closes it, by one write of one byte. Where the file is longer than the gate's
+/// place it takes no memory and no room: `Failed` alone. Elsewhere it makes the file as long as that: `Full` exactly where
+/// that passes the capacity; `Memory`.
 pub fn set_gate<D: Device>(
     dev: &mut D,
     which: DataId,
@@ -76,7 +74,6 @@ pub fn set_gate<D: Device>(
     gate: MemberGate,
     up: bool,
 ) -> Result<(), DevError>
-    requires there { IsSomeAnd ((D.state dev.old).file (record_name which node)).len (λ len. gate_number gate < len) }
     ensures { SetsGate which node gate up result (D.state dev.old) (D.state dev.new) }
 {
     let name = DeviceName::of_record(which, node);
@@ -87,7 +84,6 @@ pub fn set_gate<D: Device>(
 fn turn<D: Device>(dev: &mut D, name: &[u8], gate: u8, up: bool) -> Result<(), DevError>
     requires name { IsDeviceName name.now }
     requires gate { gate < 8 }
-    requires there { IsSomeAnd ((D.state dev.old).file name.now).len (λ len. gate < len) }
     ensures { TurnsGate name.now gate (gate_byte up) result (D.state dev.old) (D.state dev.new) }
 {
     if up {

@@ -18,10 +18,14 @@ pub use gates::{MemberGate, set_gate, write_member};
 pub use laws::distinct_names;
 pub use member::Member;
 pub use part::Part;
-pub use parts::{read_part, write_part};
+pub use parts::{part_file_name, read_part, write_part};
 pub use removal::drop_step;
 pub use scanning::scan;
 
+#[cfg(test)]
+mod gate_tests;
+#[cfg(test)]
+mod part_tests;
 #[cfg(test)]
 mod removal_tests;
 #[cfg(test)]

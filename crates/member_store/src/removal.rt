@@ -4,7 +4,7 @@ ghost use Rattle.scr_base.specs.Stages.{passed, is_over};
 ghost use Rattle.scr_base.specs.declared.change.Change.TheVariants.{Remove};
 ghost use Rattle.node_device.specs.DeviceState.{IsAscending, IsUnchanged};
 ghost use Rattle.node_device.specs.Answers.{HasDeviceCause, NamesAnswers};
-ghost use Rattle.member_store.specs.Calls.{Drops, IsDropStage};
+ghost use Rattle.member_store.specs.Calls.{Drops, IsDropStage, IsDropStageOf};
 ghost use Rattle.member_store.specs.DropSteps.{Picks, MayRemoveNext, RemovesNext};
 
 use crate::device_name::DeviceName;
@@ -14,8 +14,9 @@ use scr_base::{Bytes, Change, Copies, DataId, Memory, Stage};
 use std::alloc::Global;
 use std::collections::VecDeque;
 
-/// Removes one file of a member, its record last; true exactly where none is left. A stage serves one member alone, and
-/// between its calls nothing else changes that member's files. `Failed`; `Memory`.
+/// Removes one file of a member, its record last; true exactly where nothing is left to do. A stage serves one member
+/// alone. Where nothing else changed that member's files since the stage was new, that is exactly where none of them is
+/// left, and the record is the last. `Failed`; `NoFile` exactly where the file that comes next isn't there; `Memory`.
 pub fn drop_step<D: Device>(
     alloc: Global,
     dev: &mut D,
@@ -23,7 +24,7 @@ pub fn drop_step<D: Device>(
     node: u8,
     stage: &mut Stage,
 ) -> Result<bool, DevError>
-    requires { IsDropStage which node (D.state dev.old) stage.old }
+    requires { IsDropStageOf which node stage.old }
     ensures { Drops which node result stage.old stage.new (D.state dev.old) (D.state dev.new) }
 {
     if !stage.is_new() {

@@ -51,3 +51,17 @@ fn removes_one_file_a_call(rt: HostRuntime) -> Result<(), Fail> {
     assert_eq!(rt; dev.used(), 5);
     Ok(())
 }
+
+#[test]
+fn finds_no_file_on_another_device(rt: HostRuntime) -> Result<(), Fail> {
+    let alloc = rt.alloc();
+    let mut dev = filled(alloc)?;
+    let mut stage = Stage::new();
+    assert!(rt; !drop_step(alloc, &mut dev, MEMBER, 0, &mut stage)?);
+    let mut other = MemDevice::new(alloc, 100, Vec::new(alloc))?;
+    let refused = drop_step(alloc, &mut other, MEMBER, 0, &mut stage);
+    assert_eq!(rt; refused, Err(DevError::NoFile));
+    assert!(rt; !drop_step(alloc, &mut dev, MEMBER, 0, &mut stage)?);
+    assert_eq!(rt; dev.used(), 7);
+    Ok(())
+}

@@ -16,12 +16,14 @@ pub struct Round {
 }
 
 impl Model for Round {
-    ghost use Rattle.std.specs.Prelude.{List};
+    ghost use Rattle.std.specs.Prelude.{List, length, ◌≤◌};
     ghost use Rattle.round_core.specs.declared.seat.Seat.{Seat};
 
     ghost Value = { List Seat };
 
     ghost view = { λ r. r.seats.items };
+
+    ghost invariant = { λ r. length r.seats.items ≤ 255 };
 }
 
 impl Round {
@@ -57,7 +59,6 @@ impl Round {
 
     /// The smallest rank that hasn't called.
     pub fn missing(&self) -> Option<u8>
-        requires { length self.now ≤ 255 }
         ensures { result ≡ position is_missing self.now }
     {
         let mut rank = 0;
@@ -73,8 +74,7 @@ impl Round {
     /// The verdict on a complete round: Mismatch with the smallest rank whose call differs from rank 0's, else Phase
     /// where the phase doesn't allow it, else none.
     pub fn judge(&self, phase: Phase) -> Option<Refusal>
-        requires few { length self.now ≤ 255 }
-        requires complete { is_complete self.now ≡ true }
+        requires { is_complete self.now ≡ true }
         ensures { result ≡ judged_of phase self.now }
     {
         let first = self.call(0)?;
@@ -96,7 +96,6 @@ impl Round {
 
     /// The smallest rank whose call differs from this one.
     fn differing(&self, first: &Step) -> Option<u8>
-        requires { length self.now ≤ 255 }
         ensures { result ≡ position (differs_at first.now) self.now }
     {
         let mut rank = 0;
@@ -121,6 +120,13 @@ impl Round {
         ensures { result ≡ list_all seat_is_valid self.now }
     {
         self.seats.iter().all(|seat| says_valid_at(seat))
+    }
+
+    /// Whether every rank's last step was its End.
+    pub fn all_ended(&self) -> bool
+        ensures { result ≡ list_all (λ seat. seat.ended) self.now }
+    {
+        self.seats.iter().all(|seat| seat.ended)
     }
 
     /// The round is decided: every rank has the reply due. After want of memory all is as before.

@@ -57,3 +57,16 @@ fn a_phase_refuses_and_a_reply_is_taken_once(rt: HostRuntime) -> Result<(), Fail
     assert!(rt; round.take_reply(0).is_none());
     Ok(())
 }
+
+/// Two ranks end, one after the other.
+#[test]
+fn all_have_ended_after_the_last_end(rt: HostRuntime) -> Result<(), Fail> {
+    let alloc = rt.alloc();
+    let mut round = Round::new(alloc, 2)?;
+    assert!(rt; !round.all_ended());
+    round.arrive(1, Step::End);
+    assert!(rt; !round.all_ended());
+    round.arrive(0, Step::End);
+    assert!(rt; round.all_ended());
+    Ok(())
+}

@@ -4,7 +4,7 @@ use Rattle.gated_record.proofs.PairSteps.{may_make_next, made_next, made_none}
 use Rattle.gated_record.proofs.pair_steps.step.Goals as goal
 
 pub make-requires : goal.make-requires
-make-requires g c = may_make_next c.args.stage.now (pair_body c.args.want.now) (g.D.Device.state c.args.dev.now) c.in-Some.change.now (sym c.in-Some.ensures) c.requires
+make-requires g c = may_make_next c.args.stage.now (pair_body c.args.want.now) c.in-Some.change.now (sym c.in-Some.ensures) c.requires
 
 pub returns-in-None-clause-made : goal.returns-in-None-clause-made
 returns-in-None-clause-made g c = made_none c.args.stage.now (pair_body c.args.want.now) (g.D.Device.state c.args.dev.now) (sym c.in-None.ensures)

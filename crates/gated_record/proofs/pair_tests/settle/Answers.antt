@@ -4,4 +4,4 @@ pub loop-over-init : goal.loop-over-init
 loop-over-init g c = c.requires.stage
 
 pub loop-over-preserved : goal.loop-over-preserved
-loop-over-preserved g c = let entry = c.loop-over.invariant in (entry.0, (c.in_ok-over.ensures.goes entry.0 entry.1).stage)
+loop-over-preserved g c = c.in_ok-over.ensures.stage

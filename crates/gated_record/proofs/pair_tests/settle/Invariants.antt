@@ -1,12 +1,11 @@
-use Rattle.std.proofs.Common.{◌+◌, Option}
+use Rattle.std.proofs.Common.{◌+◌}
 use Rattle.std.specs.Prelude.{codes, if◌then◌else◌}
 use Rattle.scr_base.specs.Stages.{left}
-use Rattle.gated_record.specs.PairStages.{IsPairStage}
-use Rattle.gated_record.specs.declared.pair.PairValue.{PairValue}
+use Rattle.gated_record.specs.PairStages.{IsStageOf}
 use Rattle.gated_record.proofs.pair_tests.settle.Given as goal
 
 abbrev pub invariant-loop-over : goal.invariant-loop-over
-invariant-loop-over g l = (old : Option PairValue) × IsPairStage (codes "run") old l.want (g.D.Device.state l.dev) l.stage
+invariant-loop-over g l = IsStageOf (codes "run") l.stage
 
 abbrev pub decreases-loop-over : goal.decreases-loop-over
 decreases-loop-over g l = if l.over then 0 else left l.stage + 1

@@ -15,9 +15,9 @@ returns-clause-body g c = λ tells.
     (c.write.ensures.now tells)
 
 pub returns-clause-shut : goal.returns-clause-shut
-returns-clause-shut g c = λ tells.
+returns-clause-shut g c = λ shut.
     let d = g.D.Device.state c.args.dev.now in
     let name = c.args.name.now in
-    stays_shut (8 + length c.args.body.now) (d.file name) ((g.D.Device.state c.write.new.self).file name) (c.requires.shut tells) ((g.met.D.Device.sound c.args.dev.now).stable_allowed name)
+    stays_shut (8 + length c.args.body.now) (d.file name) ((g.D.Device.state c.write.new.self).file name) shut ((g.met.D.Device.sound c.args.dev.now).stable_allowed name)
     (subst (λ (n : ℕ). Torn 8 n (d.file name) ((g.D.Device.state c.write.new.self).file name))
     (ap (λ (l : List ℕ). length l) (c.deref.ensures.value ∙ c.in_ok-all.ensures) ∙ length-append (to_be_bytes w64 (length c.args.body.now)) c.args.body.now) c.write.ensures.torn)

@@ -1,4 +1,4 @@
-use Rattle.std.proofs.Common.{◌≡◌, sym, ap, subst, Bool}
+use Rattle.std.proofs.Common.{◌≡◌, sym, ap, subst, Bool, rules, Fits, w32}
 use Rattle.std.specs.Prelude.{Result, Ok, Err, IsErr, IsErrAnd}
 use Rattle.node_device.specs.declared.device.DevError.{DevError}
 use Rattle.member_store.specs.Calls.{Drops}
@@ -6,7 +6,10 @@ use Rattle.member_store.proofs.Drops.{later_may, later, first_may, first_done, f
 use Rattle.member_store.proofs.removal.drop_step.Goals as goal
 
 pub remove_next-requires : goal.remove_next-requires
-remove_next-requires g c = later_may c.args.which c.args.node (g.D.Device.state c.args.dev.now) c.args.stage.now (g.met.D.Device.sound c.args.dev.now) (sym c.if-not-is_new.ensures) c.requires
+remove_next-requires g c =
+    let id : Fits w32 c.args.which.id = search rules in
+    let run : Fits w32 c.args.which.run = search rules in
+    later_may c.args.which c.args.node (record { id = id.fits; run = run.fits; small = c.ranges.node.fits }) c.args.stage.now (sym c.if-not-is_new.ensures) c.requires
 
 pub returns-then-not-is_new : goal.returns-then-not-is_new
 returns-then-not-is_new g c =
@@ -15,8 +18,10 @@ returns-then-not-is_new g c =
 
 pub remove_next-requires-2 : goal.remove_next-requires-2
 remove_next-requires-2 g c =
+    let id : Fits w32 c.args.which.id = search rules in
+    let run : Fits w32 c.args.which.run = search rules in
     first_may c.args.which c.args.node (g.D.Device.state c.args.dev.now) (g.D.Device.state c.removals.new.dev) (g.D.Device.state c.removals.new.dev) c.args.stage.now c.begin.new.self (sym c.if-not-is_new.ensures)
-    c.in_ok-removals.field-0.items c.begin.ensures.begun c.begin.ensures.fewer c.in_ok-removals.ensures.found c.in_ok-removals.ensures.same c.in_ok-removals.ensures.cause (g.met.D.Device.sound c.args.dev.now)
+    c.in_ok-removals.field-0.items c.begin.ensures.begun c.begin.ensures.fewer c.in_ok-removals.ensures.found c.in_ok-removals.ensures.same c.in_ok-removals.ensures.cause (record { id = id.fits; run = run.fits; small = c.ranges.node.fits })
 
 -- what `?` hands on is the error itself
 handed_on : (result : Result Bool DevError) (fault : DevError) → IsErr result → IsErrAnd result (λ other. other ≡ fault) → result ≡ Err fault

@@ -1,9 +1,8 @@
-use Rattle.std.proofs.Common.{◌≡◌, ◌∙◌, ℕ, Bool, true, false, not, List, refl, sym, ap, subst, codes}
-use Rattle.std.specs.Prelude.{decimal, bytes_eq}
+use Rattle.std.proofs.Common.{◌≡◌, ◌∙◌, ℕ, Bool, true, false, not, List, refl, sym, ap, codes}
+use Rattle.std.specs.Prelude.{bytes_eq}
 use Rattle.std.proofs.lemmas.Slice.Eq.{bytes_eq-Decides}
 use Rattle.kvtree.specs.Entries.{Entries, none, entry}
 use Rattle.kvtree.specs.Lookup.{leaf}
-use Rattle.member_store.specs.Trees.{record_tree}
 use Rattle.member_store.proofs.Keys.{six_entries}
 use Rattle.member_store.proofs.tree.files_and_node.Goals as goal
 

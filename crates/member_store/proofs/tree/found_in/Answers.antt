@@ -1,8 +1,7 @@
-use Rattle.std.proofs.Common.{◌≡◌, ◌∙◌, ◌≤◌, ◌<◌, ◌*◌, ◌^◌, ℕ, List, refl, sym, ap, subst, arith, Some, Err}
-use Rattle.std.proofs.lemmas.Bool.Decides.{nat_tests}
+use Rattle.std.proofs.Common.{◌∙◌, ◌*◌, refl, sym, ap, subst, arith, Some, Err}
 use Rattle.dataset_desc.specs.declared.desc.Desc.{Desc}
 use Rattle.filemap.specs.Maps.{IsMap, map_tree}
-use Rattle.member_store.proofs.Keys.{some_few, few_nodes, small_node, keys_of, parts_of, files_same, node_same, found_same}
+use Rattle.member_store.proofs.Keys.{some_few, small_node, keys_of, parts_of, files_same, node_same, found_same}
 use Rattle.member_store.proofs.tree.found_in.Goals as goal
 
 pub returns-in_default-clause-only : goal.returns-in_default-clause-only
