@@ -1,0 +1,4 @@
+pub mod Numbers
+pub mod Trees
+pub mod Told
+pub mod Stored

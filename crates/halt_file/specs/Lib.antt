@@ -1,0 +1,4 @@
+pub mod Conditions
+pub mod Payloads
+pub mod Puts
+pub mod Stores
