@@ -1,10 +1,9 @@
+mod Orders
+mod Restarts
 mod Fronts
 mod Same
-mod Visible
-mod Tails
-mod Numbers
 mod Lengths
 mod Causes
-mod Begun
-mod TwoRuns
-mod Ended
+mod Plain
+mod Replayed
+mod Cuts

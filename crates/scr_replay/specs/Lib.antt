@@ -2,7 +2,7 @@ pub mod Words
 pub mod Inputs
 pub mod Outputs
 pub mod Forms
-pub mod Programs
-pub mod Fields
-pub mod Statuses
+pub mod Refusals
 pub mod Runs
+pub mod Items
+pub mod Statuses

@@ -1,13 +1,15 @@
 //! Replays the script of a job of checkpoints over devices in memory, and prints its history.
 #![tactic(auto)]
 
+mod built;
 mod devices;
-mod fields;
 mod input;
+mod names;
 mod output;
 mod playing;
+mod refusal;
 mod replay;
-mod script;
+mod steps;
 mod telling;
 #[cfg(test)]
 mod tests;

@@ -1,47 +1,76 @@
-// One run of a program.
-ghost use Rattle.std.specs.Prelude.{◌≡◌, ◌⊎◌, ◌<◌, ◌≤◌, OnOk, IfOk, IfErr};
+// The runs of a script.
+ghost use Rattle.std.specs.Prelude.{◌≡◌, ◌*◌, ◌<◌, ◌≤◌, ◌⊎◌, ◌∷◌, [], true, length, map, IfOk, IfErr, OnOk};
 ghost use Rattle.scr_base.specs.Causes.{Rose};
-ghost use Rattle.ckpt_model.specs.Machine.{Machine};
 ghost use Rattle.node_device.specs.Rack.{states_of};
-ghost use Rattle.site_core.specs.Follows.{Keeps, HasStopped, IsActor, IsCalm, Stands, Follows};
-ghost use Rattle.site_core.specs.Form.{IsSaving, IsRestarting};
-ghost use Rattle.scr_replay.specs.Runs.{RunCause, RunEnds, Told, IsReplayed, HasFault, HasFull, status_of_error};
+ghost use Rattle.ckpt_model.specs.Machine.{Machine};
+ghost use Rattle.script_reader.specs.Values.{size_of};
+ghost use Rattle.script_reader.specs.declared.script.Item.TheVariants as item;
+ghost use Rattle.site_core.specs.Causes.{IsCalm};
+ghost use Rattle.site_core.specs.Follows.{Keeps, HasStopped, IsActor, IsSameRun, Stands, Follows};
+ghost use Rattle.site_core.specs.Shown.{setup_of as setup_of_core};
+ghost use Rattle.scr_replay.specs.Forms.{is_plain_run};
+ghost use Rattle.scr_replay.specs.Items.{setup_of, legal_item, legal_items, CutsShort};
+ghost use Rattle.scr_replay.specs.Runs.{RunCause, RunEnds, IsReplayed, IsPlayed, GivesUp, IsCalmPast, HasFault, HasFull, status_of_error};
+ghost use Rattle.scr_replay.specs.Statuses.{IsBuilt};
 
-use crate::script::Form;
 use crate::telling::{Untold, tell};
 use node_device::{Bay, Device, Ran};
-use scr_base::{Actor, Config, Scheme, Shape, Sink, Step};
-use site_core::{Closed, Site, SiteError, Unbegun};
+use scr_base::{Actor, Config, Copies, Items, Memory, Shape, Sink, Step};
+use script_reader::{Item, RunItem, Script};
+use site_core::{Closed, Site, SiteError, Unbegun, stop_devices};
 use std::alloc::Global;
 
-/// More rounds than any run of this form takes.
-const ROUNDS: u32 = 1000;
+/// More rounds than any run of a script takes.
+const ROUNDS: u32 = 1_000_000;
 
-/// Runs a program over a bay and prints its history: the bay for the next run, or how the call ends.
-pub fn play<D: Device, K: Sink>(
+/// Runs the runs of a script over a bay, one after the other, and prints their histories.
+pub fn play_all<D: Device, K: Sink>(
     alloc: Global,
     bay: Bay<D>,
-    program: Vec<Step>,
+    script: &Script,
+    sink: &mut K,
+) -> Ran<D>
+    requires { IsBuilt script.now }
+    ensures done { result.status ≡ 0 → IsReplayed D.state (setup_of script.now) (legal_items script.now.items) (states_of D.state bay) (states_of D.state result.bay) (K.held sink.old) (K.held sink.new) }
+    ensures cut { 3 < result.status → CutsShort D.state (setup_of script.now) script.now.items (states_of D.state bay) (K.held sink.old) (K.held sink.new) }
+    ensures quiet { result.status ≡ 0 → K.fault_count sink.new ≡ K.fault_count sink.old }
+    ensures known { (result.status ≡ 0) ⊎ ((3 < result.status) × (result.status ≤ 7)) }
+    ensures sink_fault { result.status ≡ 4 → Rose (K.fault_count sink.old) (K.fault_count sink.new) }
+    ensures device_fault { result.status ≡ 6 → HasFault (states_of D.state bay) (states_of D.state result.bay) }
+    ensures device_full { result.status ≡ 7 → HasFull (states_of D.state bay) (states_of D.state result.bay) }
+{
+    let mut bay = bay;
+    for item in script.items.list() {
+        let Item::Run { run } = item else {
+            unreachable!()
+        };
+        match play(alloc, bay, script.shape, script.config, run, sink) {
+            Ok(after) => bay = after,
+            Err(ran) => return ran,
+        }
+    }
+    Ran { status: 0, bay }
+}
+
+/// Runs a run over a bay and prints its history: the bay for what follows, or how the call ends.
+fn play<D: Device, K: Sink>(
+    alloc: Global,
+    bay: Bay<D>,
+    shape: Shape,
+    config: Config,
+    run: &RunItem,
     sink: &mut K,
 ) -> Result<Bay<D>, Ran<D>>
-    requires { IsSaving program.items ⊎ IsRestarting program.items }
-    ensures told { IfOk result (λ after. Told program.items (states_of D.state bay) (states_of D.state after) (K.held sink.old) (K.held sink.new)) }
-    ensures calm { IfOk result (λ after. IsCalm (states_of D.state bay) (states_of D.state after)) }
+    requires { is_plain_run (size_of shape) run.now ≡ true }
+    ensures replayed { IfOk result (λ after. IsReplayed D.state (record { shape = shape; config = config }) (legal_item (item.Run run.now) ∷ []) (states_of D.state bay) (states_of D.state after) (K.held sink.old) (K.held sink.new)) }
+    ensures calm { IfOk result (λ after. IsCalmPast (states_of D.state bay) (states_of D.state after)) }
     ensures quiet { OnOk result (K.fault_count sink.new ≡ K.fault_count sink.old) }
-    ensures ends { IfErr result (λ ran. RunEnds (states_of D.state bay) (states_of D.state ran.bay) (K.held sink.old) (K.held sink.new) (K.fault_count sink.old) (K.fault_count sink.new) ran.status) }
+    ensures ends { IfErr result (λ ran. RunEnds D.state (record { shape = shape; config = config }) (legal_item (item.Run run.now)) (states_of D.state bay) (states_of D.state ran.bay) (K.held sink.old) (K.held sink.new) (K.fault_count sink.old) (K.fault_count sink.new) ran.status) }
 {
-    let mut site = match begin_run(alloc, bay, program) {
-        Ok(site) => site,
-        Err(Unbegun { bay }) => return Err(Ran { status: 5, bay }),
+    let Closed { history, bay } = match run_through(alloc, bay, shape, config, run) {
+        Ok(closed) => closed,
+        Err(ran) => return Err(ran),
     };
-    let over = run_out(&mut site);
-    let Closed { history, bay } = site.close();
-    if let Err(error) = over {
-        return Err(Ran {
-            status: status_of(error),
-            bay,
-        });
-    }
     match tell(alloc, sink, &history) {
         Ok(()) => Ok(bay),
         Err(Untold::Failed) => Err(Ran { status: 4, bay }),
@@ -49,36 +78,36 @@ pub fn play<D: Device, K: Sink>(
     }
 }
 
-/// Both runs of a form, one after the other.
-pub fn play_both<D: Device, K: Sink>(
+/// Runs a run over a bay to its end, and stops the devices: the history and the bay, or how the call ends.
+fn run_through<D: Device>(
     alloc: Global,
     bay: Bay<D>,
-    form: &Form,
-    sink: &mut K,
-) -> Ran<D>
-    ensures done { result.status ≡ 0 → IsReplayed form.now (states_of D.state bay) (states_of D.state result.bay) (K.held sink.old) (K.held sink.new) }
-    ensures quiet { result.status ≡ 0 → K.fault_count sink.new ≡ K.fault_count sink.old }
-    ensures known { (result.status ≡ 0) ⊎ ((3 < result.status) × (result.status ≤ 7)) }
-    ensures sink_fault { result.status ≡ 4 → Rose (K.fault_count sink.old) (K.fault_count sink.new) }
-    ensures device_fault { result.status ≡ 6 → HasFault (states_of D.state bay) (states_of D.state result.bay) }
-    ensures device_full { result.status ≡ 7 → HasFull (states_of D.state bay) (states_of D.state result.bay) }
+    shape: Shape,
+    config: Config,
+    run: &RunItem,
+) -> Result<Closed<D>, Ran<D>>
+    requires { is_plain_run (size_of shape) run.now ≡ true }
+    ensures played { IfOk result (λ closed. IsPlayed D.state (record { shape = shape; config = config }) (legal_item (item.Run run.now) ∷ []) (states_of D.state bay) (states_of D.state closed.bay) closed.history.events) }
+    ensures calm { IfOk result (λ closed. IsCalmPast (states_of D.state bay) (states_of D.state closed.bay)) }
+    ensures ends { IfErr result (λ ran. GivesUp (states_of D.state bay) (states_of D.state ran.bay) ran.status) }
 {
-    let Ok(saving) = form.saving(alloc) else {
-        return Ran { status: 5, bay };
+    let mut site = match begin_run(alloc, bay, shape, config, run) {
+        Ok(site) => site,
+        Err(Unbegun { bay }) => return Err(Ran { status: 5, bay }),
     };
-    let bay = match play(alloc, bay, saving, sink) {
-        Ok(bay) => bay,
-        Err(ran) => return ran,
-    };
-    let Ok(restarting) = form.restarting(alloc) else {
-        return Ran { status: 5, bay };
-    };
-    match play(alloc, bay, restarting, sink) {
-        Ok(bay) => Ran { status: 0, bay },
-        Err(ran) => ran,
+    let over = run_out(&mut site, shape.nodes * shape.ranks);
+    let Closed { history, mut bay } = site.close();
+    if let Err(error) = over {
+        return Err(Ran {
+            status: status_of(error),
+            bay,
+        });
     }
+    stop_devices(&mut bay, 0);
+    Ok(Closed { history, bay })
 }
 
+/// The status with which the call ends where a site can't go on.
 fn status_of(error: SiteError) -> u8
     ensures { result ≡ status_of_error error }
 {
@@ -89,48 +118,65 @@ fn status_of(error: SiteError) -> u8
     }
 }
 
-/// A site of one node with one rank, about to run the program.
+/// A copy of a rank's steps.
+fn steps_of(alloc: Global, program: &[Step]) -> Result<Vec<Step>, Memory>
+    ensures { IfOk result (λ steps. steps.items ≡ program.now) }
+{
+    let mut steps = Vec::new(alloc);
+    for step in program {
+        steps.push(step.copy(alloc)?)?;
+    }
+    Ok(steps)
+}
+
+/// A copy of all ranks' steps.
+fn programs_of(alloc: Global, ranks: &[Items<Step>]) -> Result<Vec<Vec<Step>>, Memory>
+    ensures { IfOk result (λ programs. map (λ program. program.items) programs.items ≡ ranks.now) }
+{
+    let mut programs = Vec::new(alloc);
+    for program in ranks {
+        programs.push(steps_of(alloc, program.list())?)?;
+    }
+    Ok(programs)
+}
+
+/// A site about to run a run.
 fn begin_run<D: Device>(
     alloc: Global,
     bay: Bay<D>,
-    program: Vec<Step>,
+    shape: Shape,
+    config: Config,
+    run: &RunItem,
 ) -> Result<Site<D>, Unbegun<D>>
-    requires { IsSaving program.items ⊎ IsRestarting program.items }
+    requires { is_plain_run (size_of shape) run.now ≡ true }
     ensures bay { IfOk result (λ site. site.bay ≡ bay) }
     ensures refused { IfErr result (λ left. left.bay ≡ bay) }
-    ensures program { IfOk result (λ site. site.program.items ≡ program.items) }
-    ensures follows { IfOk result (λ site. (first : Machine) → Stands (states_of D.state bay) first → Follows D.state first site) }
+    ensures setup { IfOk result (λ site. setup_of_core site.core ≡ record { shape = shape; config = config }) }
+    ensures places { IfOk result (λ site. site.core.places ≡ run.now.places) }
+    ensures programs { IfOk result (λ site. site.programs ≡ run.now.programs) }
+    ensures ranks { IfOk result (λ site. length site.core.ranks ≡ shape.nodes * shape.ranks) }
+    ensures follows { IfOk result (λ site. (first : Machine) → Stands (record { shape = shape; config = config }) (states_of D.state bay) first → Follows D.state first site) }
 {
-    let Ok(places) = Vec::from_array(alloc, [0u8]) else {
+    let Ok(places) = Vec::from_slice(alloc, run.places.list()) else {
         return Err(Unbegun { bay });
     };
-    let Ok(programs) = Vec::from_array(alloc, [program]) else {
+    let Ok(programs) = programs_of(alloc, run.programs.list()) else {
         return Err(Unbegun { bay });
-    };
-    let shape = Shape {
-        nodes: 1,
-        ranks: 1,
-        spares: 0,
-    };
-    let config = Config {
-        scheme: Scheme::Single,
-        size: 8,
-        cache: 1,
-        flush: 10,
-        interval: 1,
     };
     Site::begin(alloc, bay, shape, config, places, programs)
 }
 
 /// Lets the actors take their turns, round after round, until the run has stopped.
-pub fn run_out<D: Device>(site: &mut Site<D>) -> Result<(), SiteError>
+fn run_out<D: Device>(site: &mut Site<D>, ranks: u8) -> Result<(), SiteError>
+    requires { ranks ≤ length site.old.core.ranks }
     ensures kept { OnOk result (Keeps D.state site.old site.new) }
-    ensures program { site.new.program.items ≡ site.old.program.items }
+    ensures same { IsSameRun site.old site.new }
     ensures stopped { OnOk result (HasStopped site.new) }
-    ensures cause { RunCause (states_of D.state site.old.bay) (states_of D.state site.new.bay) result }
+    ensures calm { OnOk result (IsCalm (states_of D.state site.old.bay) (states_of D.state site.new.bay)) }
+    ensures cause { IfErr result (RunCause (states_of D.state site.old.bay) (states_of D.state site.new.bay)) }
 {
     for _round in 0..ROUNDS {
-        go_round(site)?;
+        go_round(site, ranks)?;
         if site.stopped() {
             return Ok(());
         }
@@ -139,24 +185,41 @@ pub fn run_out<D: Device>(site: &mut Site<D>) -> Result<(), SiteError>
 }
 
 /// Lets each actor take a turn.
-fn go_round<D: Device>(site: &mut Site<D>) -> Result<(), SiteError>
+fn go_round<D: Device>(site: &mut Site<D>, ranks: u8) -> Result<(), SiteError>
+    requires { ranks ≤ length site.old.core.ranks }
     ensures kept { OnOk result (Keeps D.state site.old site.new) }
-    ensures program { site.new.program.items ≡ site.old.program.items }
-    ensures cause { RunCause (states_of D.state site.old.bay) (states_of D.state site.new.bay) result }
+    ensures same { IsSameRun site.old site.new }
+    ensures calm { OnOk result (IsCalm (states_of D.state site.old.bay) (states_of D.state site.new.bay)) }
+    ensures cause { IfErr result (RunCause (states_of D.state site.old.bay) (states_of D.state site.new.bay)) }
 {
     take_turn(site, Actor::Recoverer)?;
-    take_turn(site, Actor::Rank { rank: 0 })?;
+    take_rank_turns(site, ranks)?;
     take_turn(site, Actor::Encoder)?;
     take_turn(site, Actor::Flusher)?;
-    take_turn(site, Actor::Evictor)?;
+    take_turn(site, Actor::Evictor)
+}
+
+/// Lets each rank take a turn.
+fn take_rank_turns<D: Device>(site: &mut Site<D>, ranks: u8) -> Result<(), SiteError>
+    requires { ranks ≤ length site.old.core.ranks }
+    ensures kept { OnOk result (Keeps D.state site.old site.new) }
+    ensures same { IsSameRun site.old site.new }
+    ensures calm { OnOk result (IsCalm (states_of D.state site.old.bay) (states_of D.state site.new.bay)) }
+    ensures cause { IfErr result (RunCause (states_of D.state site.old.bay) (states_of D.state site.new.bay)) }
+{
+    for rank in 0..ranks {
+        take_turn(site, Actor::Rank { rank })?;
+    }
     Ok(())
 }
 
+/// Lets an actor take a turn.
 fn take_turn<D: Device>(site: &mut Site<D>, actor: Actor) -> Result<(), SiteError>
-    requires { IsActor actor }
+    requires { IsActor (length site.old.core.ranks) actor }
     ensures kept { OnOk result (Keeps D.state site.old site.new) }
-    ensures program { site.new.program.items ≡ site.old.program.items }
-    ensures cause { RunCause (states_of D.state site.old.bay) (states_of D.state site.new.bay) result }
+    ensures same { IsSameRun site.old site.new }
+    ensures calm { OnOk result (IsCalm (states_of D.state site.old.bay) (states_of D.state site.new.bay)) }
+    ensures cause { IfErr result (RunCause (states_of D.state site.old.bay) (states_of D.state site.new.bay)) }
 {
     match site.turn(actor) {
         Ok(_) => Ok(()),

@@ -1,68 +1,84 @@
+ghost use Rattle.std.specs.Prelude.{◌≤◌};
+ghost use Rattle.node_device.specs.DeviceState.{IsDeviceName};
+
 use crate::input::{Input, LONGEST_TEXT, ReadError, read_input};
 use crate::output::put_all;
 use crate::replay::replay;
-use crate::script::read_form;
 use node_device::{Bay, MemDevice};
-use scr_base::{MemSink, MemSource, Memory, Sink, SinkFailed, Source, Step, TickClock};
+use scr_base::{MemSink, MemSource, Memory, Sink, SinkFailed, Source, TickClock};
 use std::alloc::Global;
 use std::test::Fail;
 
 const SCRIPT: &str =
     "site 1 1 0\nset scheme single\nrun 0\nrank 0 start a ckpt\nrank 0 route f\nrank 0 write f 0 text abc\nrank 0 complete valid\nstop 0 end\nrun 0\nrank 0 have\nrank 0 restart\nrank 0 read f 0 3\nrank 0 restarted valid\nstop 0 end\n";
 
+const SAVE: &str =
+    "site 1 1 0\nset scheme single\nrun 0\nrank 0 start a ckpt\nrank 0 route f\nrank 0 write f 0 text abc\nrank 0 complete valid\nstop 0 end\n";
+
+const NODES: &str =
+    "site 2 2 1\nset scheme single\nrun 0,1\nrank all start a ckpt\nrank all route f\nrank all write f 0 fill 250 8\nrank all complete valid\nstop 0 end\nrun 0,1\nrank all have\nrank all restart\nrank all read f 0 8\nrank all restarted valid\nstop 0 end\n";
+
+const TWO_SAVES: &str =
+    "site 1 1 0\nset scheme single\nset cache 2\nrun 0\nrank 0 start a ckpt\nrank 0 route f\nrank 0 write f 0 text abc\nrank 0 complete valid\nstop 0 end\nrun 0\nrank 0 start b ckpt\nrank 0 route g\nrank 0 write g 0 text xyz\nrank 0 complete valid\nstop 0 end\nrun 0\nrank 0 have\nrank 0 restart\nrank 0 read g 0 3\nrank 0 restarted valid\nstop 0 end\n";
+
+// The member record that the first run leaves on node 0: both gates open, the body's length, and the tree
+// DSET{FLAGS{ckpt} ID{1} NAME{a} RUN{1}} FILES{00{00{f{3}}}} FORMAT{1} NODE{0} SCHEME{SHARES{0} SIZE{8} TYPE{single}}
+// SHAPE{NODES{1} RANKS{1}}.
+const MEMBER: &[u8] =
+    b"OO\x00\x00\x00\x00\x00\x00\x00\x00\x00\x00\x00\x00\x01\x15\x00\x00\x00\x06\x00\x04DSET\x00\x00\x00\x04\x00\x05FLAGS\x00\x00\x00\x01\x00\x04ckpt\x00\x00\x00\x00\x00\x02ID\x00\x00\x00\x01\x00\x011\x00\x00\x00\x00\x00\x04NAME\x00\x00\x00\x01\x00\x01a\x00\x00\x00\x00\x00\x03RUN\x00\x00\x00\x01\x00\x011\x00\x00\x00\x00\x00\x05FILES\x00\x00\x00\x01\x00\x0200\x00\x00\x00\x01\x00\x0200\x00\x00\x00\x01\x00\x01f\x00\x00\x00\x01\x00\x013\x00\x00\x00\x00\x00\x06FORMAT\x00\x00\x00\x01\x00\x011\x00\x00\x00\x00\x00\x04NODE\x00\x00\x00\x01\x00\x010\x00\x00\x00\x00\x00\x06SCHEME\x00\x00\x00\x03\x00\x06SHARES\x00\x00\x00\x01\x00\x010\x00\x00\x00\x00\x00\x04SIZE\x00\x00\x00\x01\x00\x018\x00\x00\x00\x00\x00\x04TYPE\x00\x00\x00\x01\x00\x06single\x00\x00\x00\x00\x00\x05SHAPE\x00\x00\x00\x02\x00\x05NODES\x00\x00\x00\x01\x00\x011\x00\x00\x00\x00\x00\x05RANKS\x00\x00\x00\x01\x00\x011\x00\x00\x00\x00";
+
+// The copy of the run's number 1.
+const NUMBER: &[u8] =
+    b"O\x00\x00\x00\x00\x00\x00\x00\x00\x00\x00\x00\x00\x00\x00\x04\x00\x00\x00\x01";
+
+const USAGE: &str = "usage: scr_replay run | gen SEED | script SEED\n";
+
+const UNBUILT: &str = "refused line 0 reason 15\n";
+
+const EMPTY: &str = "refused line 1 reason 4\n";
+
 fn source(alloc: Global, text: &str, fail: &[u64]) -> Result<MemSource, Fail> {
     let bytes = text.as_bytes().to_vec(alloc)?;
     Ok(MemSource::new(bytes, fail.to_vec(alloc)?))
 }
 
-// The script with one piece of it changed.
-fn changed(alloc: Global, old: &str, new: &str) -> Result<String, Fail> {
-    Ok(SCRIPT.replace(alloc, old, new)?)
-}
-
-#[test]
-fn reads_the_form_and_nothing_else(rt: HostRuntime) -> Result<(), Fail> {
-    let alloc = rt.alloc();
-    let table = [
-        ("a ckpt", "a ckpt", true),
-        ("text abc", "text xyz", true),
-        ("read f 0 3", "read f 1048576 1048576", true),
-        ("read f 0 3", "read f 1048577 3", false),
-        ("read f 0 3", "read f 00 3", false),
-        ("read f 0 3", "read f 0 +3", false),
-        ("read f 0 3", "read g 0 3", false),
-        ("start a ckpt", "start .a ckpt", false),
-        ("start a ckpt", "start a output", false),
-        ("run 0\n", "", false),
-        ("stop 0 end\n", "stop 0 end", false),
-        ("complete valid", "complete  valid", false),
-    ];
-    for (old, new, is_form) in table {
-        let text = changed(alloc, old, new)?;
-        match read_form(alloc, text.as_bytes()) {
-            Ok(form) => assert_eq!(rt; form.is_some(), is_form, "at {new}"),
-            Err(Memory) => assert!(rt; false, "memory at {new}"),
-        }
+fn bay(alloc: Global, capacity: u64) -> Result<Bay<MemDevice>, Memory> {
+    let mut nodes = Vec::with_capacity(alloc, 32)?;
+    for place in 0..32u8 {
+        let _ = place;
+        nodes.push(MemDevice::new(alloc, capacity, Vec::new(alloc))?)?;
     }
-    Ok(())
+    let prefix = MemDevice::new(alloc, 1000, Vec::new(alloc))?;
+    Ok(Bay::new(nodes, prefix))
 }
 
-#[test]
-fn makes_the_two_programs(rt: HostRuntime) -> Result<(), Fail> {
-    let alloc = rt.alloc();
-    let Ok(Some(form)) = read_form(alloc, SCRIPT.as_bytes()) else {
-        return Ok(assert!(rt; false, "the script isn't read"));
+// The status and what the sink holds, in a fresh bay.
+fn replayed(
+    alloc: Global,
+    word: &str,
+    mut source: MemSource,
+    mut sink: MemSink,
+    capacity: u64,
+) -> Result<(u8, MemSink), Fail> {
+    let words = vec![in alloc; String::from_str(alloc, word)?]?;
+    let Ok(bay) = bay(alloc, capacity) else {
+        return Ok((5, sink));
     };
-    let Ok(saving) = form.saving(alloc) else {
-        return Ok(assert!(rt; false, "no memory"));
-    };
-    let Ok(restarting) = form.restarting(alloc) else {
-        return Ok(assert!(rt; false, "no memory"));
-    };
-    assert_eq!(rt; (saving.len(), restarting.len()), (5, 5));
-    assert!(rt; matches!(saving.last(), Some(Step::End)));
-    assert!(rt; matches!(restarting.first(), Some(Step::Have)));
-    Ok(())
+    let mut clock = TickClock::new();
+    let ran = replay(alloc, &words, &mut source, &mut sink, bay, &mut clock);
+    Ok((ran.status, sink))
+}
+
+// The same without faults, on ample devices.
+fn told(alloc: Global, text: &str) -> Result<(u8, MemSink), Fail> {
+    let source = source(alloc, text, &[])?;
+    let sink = MemSink::new(alloc, Vec::new(alloc));
+    replayed(alloc, "run", source, sink, 10_000)
+}
+
+// The script's text with one piece of it changed.
+fn changed(alloc: Global, script: &str, old: &str, new: &str) -> Result<String, Fail> {
+    Ok(script.replace(alloc, old, new)?)
 }
 
 #[test]
@@ -96,44 +112,13 @@ fn puts_a_front_before_a_fault(rt: HostRuntime) -> Result<(), Fail> {
     Ok(())
 }
 
-const USAGE: &str = "usage: scr_replay run | gen SEED | script SEED\n";
-
-const REFUSAL: &str = "refused line 0 reason 15\n";
-
-fn bay(alloc: Global, capacity: u64) -> Result<Bay<MemDevice>, Memory> {
-    let mut nodes = Vec::with_capacity(alloc, 32)?;
-    for place in 0..32u8 {
-        let _ = place;
-        nodes.push(MemDevice::new(alloc, capacity, Vec::new(alloc))?)?;
-    }
-    let prefix = MemDevice::new(alloc, 1000, Vec::new(alloc))?;
-    Ok(Bay::new(nodes, prefix))
-}
-
-// The status and what the sink holds, in a fresh bay.
-fn replayed(
-    alloc: Global,
-    word: &str,
-    mut source: MemSource,
-    mut sink: MemSink,
-    capacity: u64,
-) -> Result<(u8, MemSink), Fail> {
-    let words = vec![in alloc; String::from_str(alloc, word)?]?;
-    let Ok(bay) = bay(alloc, capacity) else {
-        return Ok((5, sink));
-    };
-    let mut clock = TickClock::new();
-    let ran = replay(alloc, &words, &mut source, &mut sink, bay, &mut clock);
-    Ok((ran.status, sink))
-}
-
 #[test]
 fn ends_with_its_status(rt: HostRuntime) -> Result<(), Fail> {
     let alloc = rt.alloc();
     let table = [
         ("go", SCRIPT, 0, 0, 1, USAGE),
         ("-run", SCRIPT, 0, 0, 1, USAGE),
-        ("run", "", 0, 0, 2, REFUSAL),
+        ("run", "", 0, 0, 2, EMPTY),
         ("run", SCRIPT, 1, 0, 3, ""),
         ("go", SCRIPT, 1, 0, 1, USAGE),
         ("run", "", 0, 1, 4, ""),
@@ -150,24 +135,142 @@ fn ends_with_its_status(rt: HostRuntime) -> Result<(), Fail> {
 }
 
 #[test]
+fn refuses_what_is_almost_built(rt: HostRuntime) -> Result<(), Fail> {
+    let alloc = rt.alloc();
+    let table = [
+        (
+            SCRIPT,
+            "scheme single",
+            "size 8",
+            "refused line 3 reason 12\n",
+        ),
+        (SCRIPT, "run 0\n", "run 1\n", "refused line 3 reason 8\n"),
+        (
+            SCRIPT,
+            "stop 0 end\n",
+            "stop 0 end",
+            "refused line 8 reason 1\n",
+        ),
+        (
+            SCRIPT,
+            "read f 0 3",
+            "read f 00 3",
+            "refused line 12 reason 2\n",
+        ),
+        (NODES, "scheme single", "scheme partner", UNBUILT),
+        (SCRIPT, "single\n", "single\nset flush 1\n", UNBUILT),
+        (SCRIPT, "single\n", "single\nset flush 0\n", UNBUILT),
+        (SCRIPT, "single\n", "single\nset size 4\n", UNBUILT),
+        (SCRIPT, "single\n", "single\nset interval 2\n", UNBUILT),
+        (NODES, "run 0,1", "run 1,0", UNBUILT),
+        (NODES, "run 0,1", "run 0,2", UNBUILT),
+        (SCRIPT, "stop 0 end", "stop 1 end", UNBUILT),
+        (SCRIPT, "stop 0 end", "stop 0 after 3", UNBUILT),
+        (SCRIPT, "stop 0 end", "stop 0 on stop ended", UNBUILT),
+        (SCRIPT, "stop 0 end", "turn encoder 1\nstop 0 end", UNBUILT),
+        (SCRIPT, "stop 0 end\n", "stop 0 end\nlose 0\n", UNBUILT),
+        (SCRIPT, "stop 0 end\n", "stop 0 end\nhalt clear\n", UNBUILT),
+        (SCRIPT, "a ckpt", "a both", UNBUILT),
+        (SCRIPT, "a ckpt", ".a ckpt", UNBUILT),
+        (SCRIPT, "complete valid", "complete invalid", UNBUILT),
+        (SCRIPT, "restarted valid", "restarted invalid", UNBUILT),
+        (SCRIPT, "rank 0 have", "rank 0 need\nrank 0 have", UNBUILT),
+        (SCRIPT, "rank 0 route f\n", "", UNBUILT),
+        (SCRIPT, "route f", "route .f", UNBUILT),
+        (
+            SCRIPT,
+            "route f",
+            "write f 0 text x\nrank 0 route f",
+            UNBUILT,
+        ),
+        (SCRIPT, "write f 0", "write g 0", UNBUILT),
+        (SCRIPT, "read f 0 3", "read g 0 3", UNBUILT),
+        (
+            SCRIPT,
+            "rank 0 complete",
+            "rank 0 start a ckpt\nrank 0 complete",
+            UNBUILT,
+        ),
+        (NODES, "rank all complete", "rank 0-2 complete", UNBUILT),
+        (NODES, "rank all route", "rank 0-2 route", UNBUILT),
+        (TWO_SAVES, "cache 2", "cache 1", UNBUILT),
+        (TWO_SAVES, "start b", "start a", UNBUILT),
+        (TWO_SAVES, "read g", "read f", UNBUILT),
+    ];
+    for (script, old, new, want) in table {
+        let text = changed(alloc, script, old, new)?;
+        let (status, sink) = told(alloc, text.as_str())?;
+        assert_eq!(rt; status, 2, "at {new}");
+        assert_eq!(rt; sink.bytes(), want.as_bytes(), "at {new}");
+    }
+    Ok(())
+}
+
+#[test]
 fn reads_back_what_was_written(rt: HostRuntime) -> Result<(), Fail> {
     let alloc = rt.alloc();
     let table = [
-        ("text abc", "read f 0 3", "read f 0 3 = bytes 616263\n"),
-        ("text xyz", "read f 1 1", "read f 1 1 = bytes 79\n"),
-        ("text abc", "read f 3 9", "read f 3 9 = bytes -\n"),
+        (SCRIPT, "abc", "abc", "read f 0 3 = bytes 616263\n"),
+        (
+            SCRIPT,
+            "read f 0 3",
+            "read f 1 1",
+            "read f 1 1 = bytes 62\n",
+        ),
+        (SCRIPT, "read f 0 3", "read f 3 9", "read f 3 9 = bytes -\n"),
+        (
+            SCRIPT,
+            "f 0 text abc",
+            "f 0 hex 00ff",
+            "read f 0 3 = bytes 00ff\n",
+        ),
+        (
+            SCRIPT,
+            "scheme single",
+            "scheme single\nset size 8",
+            "bytes 616263\n",
+        ),
+        (
+            TWO_SAVES,
+            "abc",
+            "abc",
+            "call 0 1 have\ndecided have 2.2 b\n",
+        ),
+        (TWO_SAVES, "abc", "abc", "read g 0 3 = bytes 78797a\n"),
+        (
+            NODES,
+            "all",
+            "all",
+            "local 3 2 route f = ok d.1.1.1.f.1.0\n",
+        ),
+        (
+            NODES,
+            "all",
+            "all",
+            "local 0 3 read f 0 8 = bytes fafbfcfdfeff0001\n",
+        ),
+        (
+            NODES,
+            "all",
+            "all",
+            "local 1 3 read f 0 8 = bytes 0102030405060708\n",
+        ),
+        (
+            NODES,
+            "all",
+            "all",
+            "local 3 3 read f 0 8 = bytes 0f10111213141516\n",
+        ),
     ];
-    for (text, read, want) in table {
-        let script = changed(alloc, "text abc", text)?.replace(alloc, "read f 0 3", read)?;
-        let source = source(alloc, script.as_str(), &[])?;
-        let sink = MemSink::new(alloc, Vec::new(alloc));
-        let (status, sink) = replayed(alloc, "run", source, sink, 1000)?;
-        assert_eq!(rt; status, 0, "at {read}");
+    for (script, old, new, want) in table {
+        let text = changed(alloc, script, old, new)?;
+        let (status, sink) = told(alloc, text.as_str())?;
+        assert_eq!(rt; status, 0, "at {want}");
         let Ok(printed) = str::from_utf8(sink.bytes()) else {
             return Ok(assert!(rt; false, "no text"));
         };
-        assert!(rt; printed.contains(want), "at {read}");
-        assert!(rt; printed.ends_with("call 0 5 end\nstop ended\n"));
+        assert!(rt; printed.contains(want), "at {want}");
+        assert!(rt; printed.ends_with("end\nstop ended\n"));
     }
     Ok(())
 }
@@ -181,5 +284,44 @@ fn stops_at_a_full_device_and_at_a_failing_sink(rt: HostRuntime) -> Result<(), F
         let (ended, _) = replayed(alloc, "run", source, sink, capacity)?;
         assert_eq!(rt; ended, status);
     }
+    Ok(())
+}
+
+// A file's bytes, as many as wanted, and its length.
+fn file_at(
+    alloc: Global,
+    bay: &mut Bay<MemDevice>,
+    place: u8,
+    name: &[u8],
+    len: usize,
+) -> Result<(u64, Vec<u8>), Fail>
+    requires place { place ≤ 32 }
+    requires name { IsDeviceName name.now }
+{
+    let mut bytes = vec![in alloc; 0u8; len]?;
+    let size = bay.size_at(place, name).unwrap_or(0);
+    let _ = bay.read_at(place, name, 0, &mut bytes);
+    Ok((size, bytes))
+}
+
+#[test]
+fn leaves_records_in_their_formats(rt: HostRuntime) -> Result<(), Fail> {
+    let alloc = rt.alloc();
+    let words = vec![in alloc; String::from_str(alloc, "run")?]?;
+    let mut source = source(alloc, SAVE, &[])?;
+    let mut sink = MemSink::new(alloc, Vec::new(alloc));
+    let mut clock = TickClock::new();
+    let Ok(bay) = bay(alloc, 10_000) else {
+        return Ok(assert!(rt; false, "no bay"));
+    };
+    let ran = replay(alloc, &words, &mut source, &mut sink, bay, &mut clock);
+    assert_eq!(rt; ran.status, 0);
+    let mut left = ran.bay;
+    let (size, member) = file_at(alloc, &mut left, 0, b"d.1.1.0.m", MEMBER.len())?;
+    assert_eq!(rt; size, 293);
+    assert!(rt; member.as_slice() == MEMBER);
+    let (size, number) = file_at(alloc, &mut left, 32, b"run.1", NUMBER.len())?;
+    assert_eq!(rt; size, 20);
+    assert!(rt; number.as_slice() == NUMBER);
     Ok(())
 }

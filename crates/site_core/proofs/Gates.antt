@@ -1,159 +1,115 @@
--- Each event of a run of this form is a step of the machine.
-use Rattle.std.proofs.Common.{◌≡◌, ℕ, ◌+◌, true, false, List, [], ◌∷◌, None, length, take, drop, refl}
-use Rattle.std.specs.Prelude.{IsTrue, bytes_eq, nat_lt}
-use Rattle.std.specs.Fmt.{digits}
-use Rattle.scr_base.specs.declared.shape.Flags.TheVariants.{Ckpt}
-use Rattle.scr_base.specs.declared.answers.Phase.TheVariants as phase
-use Rattle.scr_base.specs.declared.answers.Refusal.TheVariants as refusal
+-- The events of a run that is up, as steps of the machine: calls, decisions and replies.
+use Rattle.std.proofs.Common.{◌≡◌, ℕ, ◌+◌, Bool, true, false, List, map, Option, Some, None, refl, sym, ap, ◌∙◌, slice_get}
+use Rattle.std.specs.Prelude.{IsTrue, ◌&&◌, slice_set, option_map, is_none, unwrap_or, if◌then◌else◌}
+use Rattle.std.specs.List.{list_any}
+use Rattle.scr_base.specs.Calls.{is_local, is_end}
 use Rattle.scr_base.specs.declared.answers.Reply.{Reply}
-use Rattle.scr_base.specs.declared.answers.Reply.TheVariants as reply
-use Rattle.scr_base.specs.declared.content.Content.TheVariants.{Text}
 use Rattle.scr_base.specs.declared.content.Step.{Step}
-use Rattle.scr_base.specs.declared.content.Step.TheVariants as step
-use Rattle.scr_base.specs.Words.{is_name}
-use Rattle.scr_base.specs.Calls.{is_local, is_end, same_call, allows}
-use Rattle.scr_base.specs.Halt.{no_halt}
 use Rattle.ckpt_model.specs.declared.event.Event.TheVariants as event
 use Rattle.ckpt_model.specs.declared.event.Kind.{Kind}
-use Rattle.ckpt_model.specs.declared.event.Kind.TheVariants as kind
-use Rattle.ckpt_model.specs.declared.event.StopCause.TheVariants as cause
-use Rattle.ckpt_model.specs.Dataset.{written_at}
-use Rattle.ckpt_model.specs.Machine.{Machine, Stage as Place}
-use Rattle.ckpt_model.specs.Machine.Mark.{Settled}
-use Rattle.ckpt_model.specs.Answers.{is_of_kind}
-use Rattle.ckpt_model.specs.Questions.{is_recovering}
-use Rattle.ckpt_model.specs.Stops.{index_left, halt_left, mark_left, pending_of}
-use Rattle.ckpt_model.specs.Steps.{may_begin, after_begin}
+use Rattle.ckpt_model.specs.Machine.{Kept, RankState, Doing as Does}
+use Rattle.ckpt_model.specs.Questions.{is_recovering, is_complete as is_round}
+use Rattle.ckpt_model.specs.Steps.{may_take, may_call, after_call, may_reply, after_reply, is_rank_and, change_rank, owes_reply, freed as reply_taken}
+use Rattle.scr_base.specs.declared.answers.Refusal.{Refusal}
+use Rattle.scr_base.specs.declared.answers.Reply.TheVariants as reply
+use Rattle.ckpt_model.specs.Questions.{verdict}
+use Rattle.ckpt_model.specs.Answers.{is_of_kind, may_answer, may_decide, after_decision, effect_of, effect, owes, is_fault, is_refused, is_answer, answer_to, round_answer, have_answer, is_saved, is_offer_settled}
 use Rattle.ckpt_model.specs.Runs.{StepsTo}
-use Rattle.ckpt_model.proofs.SameLemmas.{number-same, bytes-same, phase-same, reply-same}
-use Rattle.site_core.specs.declared.core_state.Stage.{Stage}
-use Rattle.site_core.specs.declared.core_state.Stage.TheVariants as stage
-use Rattle.site_core.specs.declared.core_state.Cached.{Cached}
-use Rattle.site_core.specs.declared.core_state.Cached.TheVariants as cached
-use Rattle.site_core.specs.declared.core_state.Doing.TheVariants as doing
+use Rattle.ckpt_model.proofs.SameLemmas.{number-same, reply-same}
+use Rattle.round_core.specs.declared.seat.Doing.{Doing}
+use Rattle.round_core.specs.declared.seat.Doing.TheVariants as doing
+use Rattle.round_core.specs.declared.seat.Seat.{Seat}
+use Rattle.round_core.specs.Seats.{is_free, is_complete, first_call, next_number, called, freed, owed}
+use Rattle.site_core.specs.declared.cache.Cached.{Cached}
+use Rattle.site_core.specs.declared.cache.Mark.{Mark}
+use Rattle.site_core.specs.declared.cache.Mark.TheVariants as mark
 use Rattle.site_core.specs.declared.core_state.Core.{Core}
-use Rattle.site_core.specs.declared.member.Member.{Member}
-use Rattle.site_core.specs.Form.{one_node}
-use Rattle.site_core.specs.Records.{one, part_file}
-use Rattle.site_core.specs.Shown.{row, kept_with, begun, running}
+use Rattle.site_core.specs.Shown.{Contents, running, setup_of, kept_of, rank_of, mends}
+use Rattle.site_core.proofs.Ranks.{any-map, complete_is, first_is, change_is, rank_is, owed_is}
 
--- the memory of a run that has just looked
-abbrev pub fresh_core : Stage → ℕ → Cached → Core
-fresh_core s run x = record { stage = s; run = run; phase = phase.Idle; number = 0; doing = doing.Free; cached = x; offered = false; settled = 0 }
+-- ## Recovery is over
 
-pub begins : (m : Machine) (run : ℕ) → m.stage ≡ Place.Between → run ≡ m.run + 1 → IsTrue (nat_lt m.run 4294967295) → IsTrue (may_begin one_node m run (0 ∷ []))
-begins m run s r small = rw (s, r, number-same (m.run + 1), small) refl
+untreated_is : (c : Core) (bytes : Contents) (m : Mark) (x : Cached) → m ≡ x.mark → (λ (k : Kept). Rattle.ckpt_model.specs.Steps.is_untreated k.mark) (kept_of (setup_of c) bytes c.places x) ≡ mends x
+untreated_is c bytes mark.Mending x is = rw (sym is) refl
+untreated_is c bytes mark.Sealing x is = rw (sym is) refl
+untreated_is c bytes mark.Settled x is = rw (sym is) refl
 
-pub begun_is : (m : Machine) (run : ℕ) → m.index ≡ [] → m.halt ≡ no_halt → m.mark ≡ None → after_begin one_node m run (0 ∷ []) ≡ begun run m.next m.kept
-begun_is m run i h k = rw (i, h, k) refl
+pub recovering_is : (c : Core) (bytes : Contents) → is_recovering (running bytes c) ≡ list_any mends c.kept
+recovering_is c bytes = any-map (λ (k : Kept). Rattle.ckpt_model.specs.Steps.is_untreated k.mark) (kept_of (setup_of c) bytes c.places) mends (λ x. untreated_is c bytes x.mark x refl) c.kept
 
-pub finds_none : (run next : ℕ) → StepsTo one_node (begun run next []) (event.Found [] []) (running (fresh_core stage.Serving run cached.Nothing) [])
-finds_none run next = (refl, refl)
+-- ## Calls
 
-pub finds_one : (run next : ℕ) (r : Member) (bytes : List ℕ) → StepsTo one_node (begun run next (kept_with Settled false r bytes ∷ [])) (event.Found (row ∷ []) []) (running (fresh_core stage.Mending run (cached.Kept r)) bytes)
-finds_one run next r bytes = (refl, refl)
+-- the seat may take this step next
+takes : (n : ℕ) (ended : Bool) (d : Doing) (step : Step) → is_free d ≡ true → (ended ≡ true → is_end step ≡ true) → let seat : Seat = record { number = n; ended = ended; doing = d } in IsTrue (may_take (next_number seat) step (rank_of seat))
+takes n true doing.Free step free again = rw (again refl) (number-same n)
+takes n false doing.Free step free again = number-same (n + 1)
+takes n ended (doing.Waits call) step free again = absurd (cc free)
+takes n ended (doing.Owed a) step free again = absurd (cc free)
 
-pub mends : (c : Core) (r : Member) (bytes : List ℕ) → StepsTo one_node (running (record c { stage = stage.Mending; cached = cached.Kept r }) bytes) (event.Mended one) (running (record c { stage = stage.Serving; cached = cached.Kept r }) bytes)
-mends c r bytes = (refl, refl)
+pub calls : (c : Core) (bytes : Contents) (rank : ℕ) (seat : Seat) (step : Step) → slice_get c.ranks rank ≡ Some seat → is_free seat.doing ≡ true → list_any mends c.kept ≡ false → is_local step ≡ false → (seat.ended ≡ true → is_end step ≡ true)
+    → StepsTo (setup_of c) (running bytes c) (event.Call rank (next_number seat) step) (running bytes (record c { ranks = slice_set c.ranks rank (called step seat) }))
+calls c bytes rank seat step at free up collective again = (
+  rw (recovering_is c bytes ∙ up, collective, rank_is (may_take (next_number seat) step) c.ranks rank seat at) (takes seat.number seat.ended seat.doing step free again),
+  ap (λ (rs : List RankState). record (running bytes c) { ranks = rs }) (sym (change_is (λ r. record { number = next_number seat; ended = is_end step; doing = Does.Waits step }) seat (called step seat) refl c.ranks rank at)),
+)
 
-not_recovering : (c : Core) (x : Cached) (bytes : List ℕ) → is_recovering (running (record c { stage = stage.Serving; cached = x }) bytes) ≡ false
-not_recovering c cached.Nothing bytes = refl
-not_recovering c (cached.Named name) bytes = refl
-not_recovering c (cached.Routed r) bytes = refl
-not_recovering c (cached.Kept r) bytes = refl
+owes_it : (n : ℕ) (ended : Bool) (d : Doing) (a : Reply) → d ≡ doing.Owed a → let seat : Seat = record { number = n; ended = ended; doing = d } in IsTrue (owes_reply n a (rank_of seat))
+owes_it n ended d a is = rw (is, number-same n) (reply-same a)
 
-pub calls : (c : Core) (s : Step) (bytes : List ℕ) → is_local s ≡ false → StepsTo one_node (running (record c { stage = stage.Serving; doing = doing.Free }) bytes) (event.Call 0 (c.number + 1) s) (running (record c { stage = stage.Serving; number = c.number + 1; doing = doing.Waits s }) bytes)
-calls c s bytes l = (rw (not_recovering (record c { doing = doing.Free }) c.cached bytes, l, number-same (c.number + 1)) refl, refl)
+pub replies : (c : Core) (bytes : Contents) (rank : ℕ) (seat : Seat) (a : Reply) → slice_get c.ranks rank ≡ Some seat → seat.doing ≡ doing.Owed a
+    → StepsTo (setup_of c) (running bytes c) (event.Reply rank seat.number a) (running bytes (record c { ranks = slice_set c.ranks rank (freed seat) }))
+replies c bytes rank seat a at owes_a = (
+  rw (rank_is (owes_reply seat.number a) c.ranks rank seat at) (owes_it seat.number seat.ended seat.doing a owes_a),
+  ap (λ (rs : List RankState). record (running bytes c) { ranks = rs }) (sym (change_is reply_taken seat (freed seat) refl c.ranks rank at)),
+)
 
-pub replies : (c : Core) (a : Reply) (bytes : List ℕ) → StepsTo one_node (running (record c { stage = stage.Serving; doing = doing.Owed a }) bytes) (event.Reply 0 c.number a) (running (record c { stage = stage.Serving; doing = doing.Free }) bytes)
-replies c a bytes = (rw (number-same c.number, reply-same a) refl, refl)
+-- ## Decisions
 
-pub starts : (c : Core) (name : List ℕ) (bytes : List ℕ) → IsTrue (is_name name)
-    → StepsTo one_node (running (record c { stage = stage.Serving; run = 1; phase = phase.Idle; doing = doing.Waits (step.Start name Ckpt); cached = cached.Nothing }) bytes) (event.Decided kind.Start (reply.Started one))
-    (running (record c { stage = stage.Serving; run = 1; phase = phase.Output; doing = doing.Owed (reply.Started one); cached = cached.Named name }) bytes)
-starts c name bytes is = (rw (bytes-same name, is) refl, refl)
+pub round_is : (c : Core) (bytes : Contents) → is_round (running bytes c) ≡ is_complete c.ranks
+round_is c bytes = complete_is c.ranks
 
-pub routes : (c : Core) (name file : List ℕ) → IsTrue (is_name file)
-    → StepsTo one_node (running (record c { stage = stage.Serving; phase = phase.Output; doing = doing.Free; cached = cached.Named name }) []) (event.Local 0 (c.number + 1) (step.Route file) (reply.Routed part_file))
-    (running (record c { stage = stage.Serving; phase = phase.Output; number = c.number + 1; doing = doing.Free; cached = cached.Routed (record { name = name; file = file; len = 0 }) }) [])
-unfolding digits
-routes c name file is = (rw (number-same (c.number + 1), is) refl, refl)
+pub both : (a b : Bool) → a ≡ true → b ≡ true → a && b ≡ true
+both true b p q = q
+both false b p q = absurd (cc p)
 
-pub writes : (c : Core) (r : Member) (at len : ℕ) (text bytes : List ℕ) → IsTrue (is_name r.file) → nat_lt 1048576 (at + length text) ≡ false
-    → StepsTo one_node (running (record c { stage = stage.Serving; phase = phase.Output; doing = doing.Free; cached = cached.Routed r }) bytes) (event.Local 0 (c.number + 1) (step.Write r.file at (Text text)) reply.Done)
-    (running (record c { stage = stage.Serving; phase = phase.Output; number = c.number + 1; doing = doing.Free; cached = cached.Routed (record r { len = len }) }) (written_at bytes at text))
-writes c r at len text bytes is fits = (rw (number-same (c.number + 1), is, bytes-same r.file, fits) refl, rw (bytes-same r.file) refl)
+-- the round is decided by what the answer changes, and by every rank's reply
+pub decides : (c d : Core) (bytes : Contents) (k : Kind) (a : Reply) (call : Step) → is_complete c.ranks ≡ true → first_call c.ranks ≡ Some call → is_of_kind k call ≡ true
+    → may_answer (setup_of c) (running bytes c) a call ≡ true → effect_of (setup_of c) (running bytes c) a call ≡ running bytes d → d.ranks ≡ c.ranks
+    → StepsTo (setup_of c) (running bytes c) (event.Decided k a) (running bytes (record d { ranks = map (owed a) c.ranks }))
+decides c d bytes k a call complete first of may effect same = (
+  both (is_round (running bytes c)) _ (round_is c bytes ∙ complete)
+      (ap (λ (o : Option Step). unwrap_or (option_map (λ x. is_of_kind k x && may_answer (setup_of c) (running bytes c) a x) o) false) (first_is c.ranks ∙ first) ∙ both (is_of_kind k call) _ of may),
+  rw (first_is c.ranks ∙ first, effect, owed_is a c.ranks) refl,
+)
 
-pub seals : (c : Core) (r : Member) (bytes : List ℕ)
-    → StepsTo one_node (running (record c { stage = stage.Synced; phase = phase.Output; doing = doing.Waits (step.Complete true); cached = cached.Routed r }) bytes) (event.Sealing one)
-    (running (record c { stage = stage.Sealing; phase = phase.Output; doing = doing.Waits (step.Complete true); cached = cached.Kept r }) bytes)
-seals c r bytes = (refl, refl)
+-- what is no refusal is no fault
+pub unrefused : (a : Reply) → is_refused a ≡ false → is_fault a ≡ false
+unrefused (reply.Refused r) is = absurd (cc is)
+unrefused _ is = refl
 
-pub settles : (c : Core) (r : Member) (bytes : List ℕ)
-    → StepsTo one_node (running (record c { stage = stage.Sealing; phase = phase.Output; doing = doing.Waits (step.Complete true); cached = cached.Kept r }) bytes) (event.Settled one)
-    (running (record c { stage = stage.Sealed; phase = phase.Output; doing = doing.Waits (step.Complete true); cached = cached.Kept r; settled = c.settled + 1 }) bytes)
-settles c r bytes = (refl, refl)
+-- the verdict on the round refuses it
+pub refuses : (c : Core) (bytes : Contents) (k : Kind) (r : Refusal) (call : Step) → is_complete c.ranks ≡ true → first_call c.ranks ≡ Some call → is_of_kind k call ≡ true
+    → verdict (running bytes c) ≡ Some r → is_fault (reply.Refused r) ≡ false
+    → StepsTo (setup_of c) (running bytes c) (event.Decided k (reply.Refused r)) (running bytes (record c { ranks = map (owed (reply.Refused r)) c.ranks }))
+refuses c bytes k r call complete first of is no_fault =
+    let s = setup_of c in
+    let m = running bytes c in
+    let a = reply.Refused r in
+    decides c c bytes k a call complete first of
+    (ap (λ (b : Bool). if b then is_none (verdict m) && Rattle.ckpt_model.specs.Answers.may_fault m call else is_answer (round_answer s m call) a) no_fault
+    ∙ ap (λ (v : Option Refusal). is_answer (unwrap_or (option_map (λ x. Some (reply.Refused x)) v) (answer_to s m call)) a) is ∙ reply-same a)
+    (ap (λ (b : Bool). if b then Rattle.ckpt_model.specs.Answers.fault_effect m call else m) no_fault) refl
 
-pub completes : (c : Core) (r : Member) (bytes : List ℕ)
-    → StepsTo one_node (running (record c { stage = stage.Sealed; phase = phase.Output; doing = doing.Waits (step.Complete true); cached = cached.Kept r }) bytes) (event.Decided kind.Complete reply.Kept)
-    (running (record c { stage = stage.Serving; phase = phase.Idle; doing = doing.Owed reply.Kept; cached = cached.Kept r }) bytes)
-completes c r bytes = (refl, refl)
-
-pub offers : (c : Core) (r : Member) (bytes : List ℕ)
-    → StepsTo one_node (running (record c { stage = stage.Serving; phase = phase.Idle; doing = doing.Waits step.Have; cached = cached.Kept r }) bytes) (event.Decided kind.Have (reply.Offer one r.name))
-    (running (record c { stage = stage.Serving; phase = phase.Offered; doing = doing.Owed (reply.Offer one r.name); cached = cached.Kept r; offered = true }) bytes)
-offers c r bytes = (rw (bytes-same r.name) refl, refl)
-
-pub offers_none : (c : Core) (bytes : List ℕ)
-    → StepsTo one_node (running (record c { stage = stage.Serving; phase = phase.Idle; doing = doing.Waits step.Have; cached = cached.Nothing }) bytes) (event.Decided kind.Have reply.NoneLeft)
-    (running (record c { stage = stage.Serving; phase = phase.Idle; doing = doing.Owed reply.NoneLeft; cached = cached.Nothing; offered = false }) bytes)
-offers_none c bytes = (refl, refl)
-
-pub restarts : (c : Core) (r : Member) (bytes : List ℕ)
-    → StepsTo one_node (running (record c { stage = stage.Serving; phase = phase.Offered; doing = doing.Waits step.Restart; cached = cached.Kept r; offered = true }) bytes) (event.Decided kind.Restart reply.Done)
-    (running (record c { stage = stage.Serving; phase = phase.Restart; doing = doing.Owed reply.Done; cached = cached.Kept r; offered = true }) bytes)
-restarts c r bytes = (refl, refl)
-
-pub restarted : (c : Core) (bytes : List ℕ)
-    → StepsTo one_node (running (record c { stage = stage.Serving; phase = phase.Restart; doing = doing.Waits (step.Restarted true) }) bytes) (event.Decided kind.Restarted reply.Done)
-    (running (record c { stage = stage.Serving; phase = phase.Idle; doing = doing.Owed reply.Done }) bytes)
-restarted c bytes = (refl, refl)
-
-pub reads : (c : Core) (r : Member) (at len : ℕ) (bytes : List ℕ) → IsTrue (is_name r.file)
-    → StepsTo one_node (running (record c { stage = stage.Serving; phase = phase.Restart; doing = doing.Free; cached = cached.Kept r; offered = true }) bytes) (event.Local 0 (c.number + 1) (step.Read r.file at len) (reply.Bytes (take len (drop at bytes))))
-    (running (record c { stage = stage.Serving; phase = phase.Restart; number = c.number + 1; doing = doing.Free; cached = cached.Kept r; offered = true }) bytes)
-reads c r at len bytes is = (rw (number-same (c.number + 1), is, bytes-same r.file, bytes-same (take len (drop at bytes))) refl, refl)
-
-pub takes_name : (c : Core) (r : Member) (bytes : List ℕ) → IsTrue (is_name r.name)
-    → StepsTo one_node (running (record c { stage = stage.Serving; phase = phase.Idle; doing = doing.Waits (step.Start r.name Ckpt); cached = cached.Kept r }) bytes) (event.Decided kind.Start (reply.Refused (refusal.NameTaken one)))
-    (running (record c { stage = stage.Serving; phase = phase.Idle; doing = doing.Owed (reply.Refused (refusal.NameTaken one)); cached = cached.Kept r }) bytes)
-takes_name c r bytes is = (rw (bytes-same r.name, is) refl, refl)
-
--- the phase refuses a round
-pub refuses : (c : Core) (k : Kind) (s : Step) (bytes : List ℕ) → is_of_kind k s ≡ true → same_call s s ≡ true → allows c.phase s ≡ false → is_end s ≡ false
-    → StepsTo one_node (running (record c { stage = stage.Serving; doing = doing.Waits s }) bytes) (event.Decided k (reply.Refused (refusal.Phase c.phase)))
-    (running (record c { stage = stage.Serving; doing = doing.Owed (reply.Refused (refusal.Phase c.phase)) }) bytes)
-refuses c k s bytes of same bars goes = (rw (of, same, bars, phase-same c.phase) refl, rw goes refl)
-
--- the phase refuses a rank's own step
-pub refuses_local : (c : Core) (s : Step) (bytes : List ℕ) → is_local s ≡ true → allows c.phase s ≡ false
-    → StepsTo one_node (running (record c { stage = stage.Serving; doing = doing.Free }) bytes) (event.Local 0 (c.number + 1) s (reply.Refused (refusal.Phase c.phase)))
-    (running (record c { stage = stage.Serving; number = c.number + 1; doing = doing.Free }) bytes)
-refuses_local c s bytes is bars = (rw (not_recovering (record c { doing = doing.Free }) c.cached bytes, is, number-same (c.number + 1), bars, phase-same c.phase) refl, refl)
-
--- a file that the dataset doesn't have
-pub misses : (c : Core) (r : Member) (name : List ℕ) (at len : ℕ) (bytes : List ℕ) → IsTrue (is_name name) → bytes_eq r.file name ≡ false
-    → StepsTo one_node (running (record c { stage = stage.Serving; phase = phase.Restart; doing = doing.Free; cached = cached.Kept r; offered = true }) bytes) (event.Local 0 (c.number + 1) (step.Read name at len) (reply.Refused refusal.NoFile))
-    (running (record c { stage = stage.Serving; phase = phase.Restart; number = c.number + 1; doing = doing.Free; cached = cached.Kept r; offered = true }) bytes)
-misses c r name at len bytes is other = (rw (number-same (c.number + 1), is, other) refl, refl)
-
--- the state after a stop that makes nothing more
-abbrev pub stopped : Machine → Machine
-stopped m = record m { stage = Place.Between; open_dataset = None; fetching = None; flushing = None; index = index_left (pending_of m.stage) [] m.index; halt = halt_left (pending_of m.stage) true m.halt; mark = mark_left (pending_of m.stage) true m.mark }
-
-pub ends : (c : Core) (bytes : List ℕ) → StepsTo one_node (running (record c { stage = stage.Serving; doing = doing.Waits step.End }) bytes) (event.Stop cause.Ended)
-    (stopped (running (record c { stage = stage.Serving; doing = doing.Waits step.End }) bytes))
-ends c bytes = (record { made = []; entries = []; took = true; stored = false }, refl, refl)
-
-pub runs_out : (m : Machine) → m.stage ≡ Place.Between → m.run ≡ 4294967295 → StepsTo one_node m (event.Stop cause.Runs) (stopped m)
-runs_out m s r = (record { made = []; entries = []; took = true; stored = false }, rw (s, r) refl, refl)
+-- nothing speaks against the round, and this is its answer
+pub answers : (c d : Core) (bytes : Contents) (k : Kind) (a : Reply) (call : Step) → is_complete c.ranks ≡ true → first_call c.ranks ≡ Some call → is_of_kind k call ≡ true
+    → verdict (running bytes c) ≡ None → is_refused a ≡ false → answer_to (setup_of c) (running bytes c) call ≡ Some a → effect (setup_of c) (running bytes c) call a ≡ running bytes d → d.ranks ≡ c.ranks
+    → StepsTo (setup_of c) (running bytes c) (event.Decided k a) (running bytes (record d { ranks = map (owed a) c.ranks }))
+answers c d bytes k a call complete first of clear no_refusal is changes same =
+    let s = setup_of c in
+    let m = running bytes c in
+    let no_fault = unrefused a no_refusal in
+    decides c d bytes k a call complete first of
+    (ap (λ (b : Bool). if b then is_none (verdict m) && Rattle.ckpt_model.specs.Answers.may_fault m call else is_answer (round_answer s m call) a) no_fault
+    ∙ ap (λ (v : Option Refusal). is_answer (unwrap_or (option_map (λ x. Some (reply.Refused x)) v) (answer_to s m call)) a) clear ∙ ap (λ (o : Option Reply). is_answer o a) is ∙ reply-same a)
+    (ap (λ (b : Bool). if b then Rattle.ckpt_model.specs.Answers.fault_effect m call else if is_refused a then m else effect s m call a) no_fault
+    ∙ ap (λ (b : Bool). if b then m else effect s m call a) no_refusal ∙ changes) same

@@ -1,227 +1,240 @@
--- A run's beginning and its end, over plain values.
-use Rattle.std.proofs.Common.{◌≡◌, ℕ, ◌+◌, ◌<◌, ◌^◌, Option, unwrap_or, true, false, List, [], ◌∷◌, ◌++◌, None, Some, refl, sym, ap, ◌∙◌, subst, arith}
-use Rattle.std.specs.Prelude.{IsTrue, nat_lt, not}
-use Rattle.std.specs.List.{list_all}
+-- A run begins, finds what the run before left, and ends.
+use Rattle.std.proofs.Common.{◌≡◌, inl, inr, ℕ, zero, suc, ◌+◌, ◌*◌, ◌<◌, ◌≤◌, Bool, true, false, List, [], ◌∷◌, ◌++◌, length, map, replicate, Some, None, refl, sym, ap, ◌∙◌, subst, slice_get, arith}
+use Rattle.std.specs.Prelude.{IsTrue, slice_index, bytes_eq, find, nat_lt, not, ◌&&◌, ◌==◌}
+use Rattle.std.specs.List.{list_any, list_all}
+use Rattle.std.proofs.lemmas.List.{length-replicate}
+use Rattle.std.proofs.lemmas.List.FromFn.{length-range_with_len}
+use Rattle.scr_base.specs.declared.shape.DataId.{DataId}
 use Rattle.scr_base.specs.declared.content.Step.{Step}
-use Rattle.scr_base.specs.declared.content.Step.TheVariants as step
+use Rattle.node_device.specs.File.{IsAtRest}
+use Rattle.node_device.specs.DeviceState.{DeviceState}
 use Rattle.ckpt_model.specs.declared.event.Event.{Event}
 use Rattle.ckpt_model.specs.declared.event.Event.TheVariants as event
-use Rattle.ckpt_model.specs.declared.event.StopCause.TheVariants as cause
-use Rattle.ckpt_model.specs.Machine.{Machine, Kept}
-use Rattle.ckpt_model.specs.Machine.Mark.{Settled}
-use Rattle.ckpt_model.specs.Legal.{IsRunOf, ends_with_stop, is_stop, is_script_stop}
-use Rattle.ckpt_model.specs.Legal.Place.{AtEnd}
+use Rattle.ckpt_model.specs.Machine.{Machine, Setup, Kept, Stage as Place}
+use Rattle.ckpt_model.specs.Steps.{are_places, are_distinct, physical_count, may_begin, after_begin}
+use Rattle.ckpt_model.specs.Runs.{StepsTo}
 use Rattle.ckpt_model.proofs.RunLemmas.{run_on}
-use Rattle.ckpt_model.specs.Runs.{RunsTo}
+use Rattle.round_core.specs.Seats.{fresh_seat}
+use Rattle.site_core.specs.declared.cache.Cached.{Cached}
+use Rattle.site_core.specs.declared.cache.Manifest.{Manifest}
+use Rattle.site_core.specs.declared.cache.Mark.TheVariants as mark
+use Rattle.site_core.specs.declared.core_state.Core.{Core}
 use Rattle.site_core.specs.declared.core_state.Stage.{Stage}
 use Rattle.site_core.specs.declared.core_state.Stage.TheVariants as stage
-use Rattle.site_core.specs.declared.core_state.Cached.{Cached}
-use Rattle.site_core.specs.declared.core_state.Cached.TheVariants as cached
-use Rattle.site_core.specs.declared.core_state.Doing.TheVariants as doing
-use Rattle.site_core.specs.declared.core_state.Core.{Core}
-use Rattle.site_core.specs.declared.member.Member.{Member}
-use Rattle.site_core.specs.Form.{one_node}
-use Rattle.site_core.specs.Records.{one, Files, run_of, IsMember, IsOpen, standing}
-use Rattle.site_core.specs.Shown.{row, rows_for, kept_with, kept_of, begun, running}
-use Rattle.site_core.specs.Holds.{StandsFor, KeptRead, IsFresh, HoldsAt, ToldAt, IsSoFar, IsHeld, HasNoFile, FilesAre, WorkIs, OfferIs, Leads}
-use Rattle.site_core.proofs.Gates.{fresh_core, begins, begun_is, finds_none, finds_one, mends, stopped, ends, runs_out}
-use Rattle.site_core.proofs.Told.{is_up, led, up_goes_on, tells_end, and_true, all_front, all_more_of}
-use Rattle.site_core.specs.Calls.{Looks, found_core, is_shut}
-use Rattle.site_core.proofs.Parsing.{same_member}
-use Rattle.site_core.proofs.Serving.{core_is, serves, held_at, held_as}
+use Rattle.site_core.specs.Shown.{Contents, running, begun, setup_of, kept_of, come_to, settled_if, mends, row_of, greatest_id, rank_of}
+use Rattle.site_core.specs.Choosing.{AscendFrom, AreBelow, seals}
+use Rattle.site_core.specs.Stored.{cells_of, contents_of, FilesStand, RecordsStand, IsKnown, NoOtherRecords, IsFuture}
+use Rattle.site_core.specs.Holds.{Leads, StoreHolds, StandsFor, IsOneOf, settled_set, IsFresh, IsLooking, IsQuiet, IsUp, IsPending, IsSoFar, WorkIs, NoRecordYet}
+use Rattle.site_core.proofs.Told.{is_up, led, leads_up, tells_more}
+use Rattle.site_core.proofs.Finds.{finds}
+use Rattle.site_core.proofs.Seals.{mended}
+use Rattle.site_core.proofs.SaveEnds.{settled-at, settled-there, settled-manifest, ascend-settled, below-settled, none-if, none-passes}
+use Rattle.site_core.proofs.Ranks.{map-map}
 
--- what holds at a stage that is known
-pub holds_at : (s t : Stage) (c : Core) (files : Files) (m : Machine) → s ≡ t → HoldsAt s c files m → HoldsAt t c files m
-holds_at s t c files m e h = subst (λ (x : Stage). HoldsAt x c files m) e h
+some_same : {X : Type 0} (x y : X) → Some x ≡ Some y → x ≡ y
+some_same x y e = cc
 
-pub told_at : (s t : Stage) (program : List Step) (events : List Event) → s ≡ t → ToldAt s program events → ToldAt t program events
-told_at s t program events e h = subst (λ (x : Stage). ToldAt x program events) e h
+-- ## What is found
 
--- only the record and its file count for what is kept
-pub kept_as : (files files' : Files) (kept : List Kept) → files'.member ≡ files.member → files'.part ≡ files.part → KeptRead files kept → KeptRead files' kept
-kept_as files files' [] m p h = (m ∙ h.0, p ∙ h.1)
-kept_as files files' (k ∷ []) m p h = (h.0, h.1, record { is_member = h.2.is_member; member = m ∙ h.2.member; part = p ∙ h.2.part; len = h.2.len }, h.3)
-kept_as files files' (k ∷ l ∷ kept) m p h = h
+-- a dataset as recovery finds it
+abbrev pub found_set : Manifest → Cached
+found_set m = record { manifest = m; mark = mark.Mending }
 
--- between two runs only the stored number, the record and its file count
-stands_as : (files files' : Files) (m : Machine) (run : ℕ) → files' ≡ record files { stored = files'.stored } → run_of files'.stored ≡ run → StandsFor files m → StandsFor files' (record m { run = run })
-stands_as files files' m run same stored h = record { between = h.between; stored = stored; kept = kept_as files files' m.kept (ap (λ (x : Files). x.member) same) (ap (λ (x : Files). x.part) same) h.kept; index = h.index; halt = h.halt; mark = h.mark }
+-- the run has found these
+abbrev pub found_core : Core → List Manifest → Core
+found_core c sets = record c { stage = stage.Mending; kept = map found_set sets; next = greatest_id (map settled_set sets) + 1 }
 
-pub number_stored : (first : Machine) (c : Core) (program : List Step) (files files' : Files) (events : List Event) (n : ℕ)
-    → c.stage ≡ stage.Storing → n + 1 < 2 ^ 32 → n ≡ run_of files.stored → files' ≡ record files { stored = files'.stored } → run_of files'.stored ≡ n + 1
-    → Leads first c program files events → Leads first (record c { stage = stage.Syncing; run = n + 1 }) program files' events
-number_stored first c program files files' events n st fits is same stored leads =
-    let h = holds_at c.stage stage.Storing c files leads.state st leads.holds in
-    record {
-      state = leads.state;
-      run = leads.run;
-      holds = record {
-        stands = stands_as files files' leads.state (n + 1) same stored h.stands;
-        run = ap (λ k. k + 1) (is ∙ h.stands.stored);
-        fits = fits;
-        fresh = record { phase = h.fresh.phase; number = h.fresh.number; doing = h.fresh.doing; cached = h.fresh.cached; offered = h.fresh.offered; settled = h.fresh.settled };
+found-at : (sets : List Manifest) (i : ℕ) (x : Cached) → slice_get (map found_set sets) i ≡ Some x → (m : Manifest) × (slice_get sets i ≡ Some m) × (found_set m ≡ x)
+found-at [] i x at = absurd (cc at)
+found-at (m ∷ ms) zero x at = (m, refl, some_same (found_set m) x at)
+found-at (m ∷ ms) (suc i) x at = found-at ms i x at
+
+found-there : (sets : List Manifest) (i : ℕ) (m : Manifest) → slice_get sets i ≡ Some m → slice_get (map found_set sets) i ≡ Some (found_set m)
+found-there [] i m at = absurd (cc at)
+found-there (x ∷ xs) zero m at = ap Some (ap found_set (some_same x m at))
+found-there (x ∷ xs) (suc i) m at = found-there xs i m at
+
+ascend-found : (low : ℕ) (sets : List Manifest) → AscendFrom low (map settled_set sets) → AscendFrom low (map found_set sets)
+ascend-found low [] rise = tt
+ascend-found low (m ∷ ms) rise = (rise.0, ascend-found (m.desc.which.id + 1) ms rise.1)
+
+fold-least : (sets : List Cached) (n : ℕ) → n ≤ Rattle.std.specs.Prelude.fold (λ k (set : Cached). Rattle.std.specs.Prelude.max k set.manifest.desc.which.id) n sets
+fold-least [] n = omega arith
+fold-least (x ∷ xs) n = omega (arith, fold-least xs (Rattle.std.specs.Prelude.max n x.manifest.desc.which.id))
+
+below-greatest : (sets : List Manifest) (n g : ℕ) → Rattle.std.specs.Prelude.fold (λ k (set : Cached). Rattle.std.specs.Prelude.max k set.manifest.desc.which.id) n (map settled_set sets) ≤ g → AreBelow (g + 1) (map found_set sets)
+below-greatest [] n g le = tt
+below-greatest (m ∷ ms) n g le =
+    (omega (arith, le, fold-least (map settled_set ms) (Rattle.std.specs.Prelude.max n m.desc.which.id)), below-greatest ms (Rattle.std.specs.Prelude.max n m.desc.which.id) g le)
+
+none-sealed : (sets : List Manifest) → list_any seals (map found_set sets) ≡ false
+none-sealed [] = refl
+none-sealed (m ∷ ms) = none-sealed ms
+
+known_found : (c : Core) (sets : List Manifest) (m : Manifest) → c.opened ≡ None → IsKnown (found_core c sets) m → IsOneOf sets m
+known_found c sets m closed (inl e) = absurd (cc (closed, e))
+known_found c sets m closed (inr among) =
+    let x = found-at sets among.0 among.1 among.2 in
+    (among.0, x.1 ∙ ap (λ (y : Cached). Some y.manifest) x.2 ∙ ap Some among.3)
+
+found_known : (c : Core) (sets : List Manifest) (m : Manifest) → IsOneOf sets m → IsKnown (found_core c sets) m
+found_known c sets m one = inr (one.0, found_set m, found-there sets one.0 m one.1, refl)
+
+-- the ranks of a run that has begun
+fresh-ranks : (n : ℕ) → map rank_of (replicate n fresh_seat) ≡ replicate n Rattle.ckpt_model.specs.Steps.fresh_rank
+fresh-ranks zero = refl
+fresh-ranks (suc n) = ap (λ (rs : List Rattle.ckpt_model.specs.Machine.RankState). Rattle.ckpt_model.specs.Steps.fresh_rank ∷ rs) (fresh-ranks n)
+
+pub looking : (s : Stage) (c : Core) (states : ℕ → DeviceState) (m : Machine) → s ≡ stage.Looking → Rattle.site_core.specs.Holds.HoldsAt s c states m → IsLooking c states m
+looking s c states m e h = subst (λ (x : Stage). Rattle.site_core.specs.Holds.HoldsAt x c states m) e h
+
+told_looking : (s : Stage) (places : List ℕ) (programs : List (List Step)) (events : List Event) → s ≡ stage.Looking → Rattle.site_core.specs.Holds.ToldAt s places programs events → IsSoFar places programs events
+told_looking s places programs events e h = subst (λ (x : Stage). Rattle.site_core.specs.Holds.ToldAt x places programs events) e h
+
+first_place : (ns : List ℕ) → 0 < length ns → (p : ℕ) × ((rest : List ℕ) × (ns ≡ p ∷ rest))
+first_place [] lt = absurd (omega arith)
+first_place (n ∷ ns) lt = (n, (ns, refl))
+
+settled-twice : (sets : List Manifest) → map (come_to mark.Settled) (map settled_set sets) ≡ map settled_set sets
+settled-twice sets = map-map (come_to mark.Settled) settled_set settled_set (λ m. refl) sets
+
+mending-found : (sets : List Manifest) → map (come_to mark.Mending) (map settled_set sets) ≡ map found_set sets
+mending-found sets = map-map (come_to mark.Mending) settled_set found_set (λ m. refl) sets
+
+-- what recovery leaves in memory shows the state
+shown : (c : Core) (bytes : Contents) (next : ℕ) (sets : List Manifest) → IsFresh c
+    → (let m : Machine = begun c next (map (kept_of (setup_of c) bytes c.places) (map found_set sets)) in record m { stage = Place.Running; next = greatest_id (map settled_set sets) + 1 }) ≡ running bytes (found_core c sets)
+shown c bytes next sets fresh = rw (fresh.phase_is, fresh.offer, fresh.opened, fresh.ranks, fresh.settled, fresh-ranks (c.shape.nodes * c.shape.ranks)) refl
+
+pub found : (first : Machine) (c : Core) (programs : List (List Step)) (states : ℕ → DeviceState) (events events' : List Event) (sets : List Manifest) (h : Leads first c programs states events) (at : c.stage ≡ stage.Looking)
+    → (looking c.stage c states h.state at h.holds).sets ≡ sets → 0 < c.shape.nodes
+    → events' ≡ events ++ event.Found (map row_of (map settled_set sets)) [] ∷ [] → Leads first (found_core c sets) programs states events'
+found first c programs states events events' sets h at are some more =
+    let look = looking c.stage c states h.state at h.holds in
+    let fresh = look.fresh in
+    let bytes = contents_of (cells_of states) c in
+    let d = found_core c sets in
+    let store : StoreHolds (setup_of c) (cells_of states) c.run sets = subst (λ (x : List Manifest). StoreHolds (setup_of c) (cells_of states) c.run x) are look.store in
+    let front = first_place c.places (omega (arith, some, ap length fresh.places, length-range_with_len 0 c.shape.nodes)) in
+    let was : h.state ≡ begun c look.next (map (kept_of (setup_of c) bytes c.places) (map settled_set sets)) = look.is ∙ ap (λ (x : List Manifest). begun c look.next (map (kept_of (setup_of c) bytes c.places) (map settled_set x))) are in
+    let step : StepsTo (setup_of c) h.state (event.Found (map row_of (map settled_set sets)) []) (running bytes d) =
+    subst (λ (m : Machine). StepsTo (setup_of c) m (event.Found (map row_of (map settled_set sets)) []) (running bytes d)) (sym was)
+    (subst (λ (m : Machine). StepsTo (setup_of c) (begun c look.next (map (kept_of (setup_of c) bytes c.places) (map settled_set sets))) (event.Found (map row_of (map settled_set sets)) []) m)
+    (ap (λ (ks : List Cached). let m : Machine = begun c look.next (map (kept_of (setup_of c) bytes c.places) ks) in record m { stage = Place.Running; next = greatest_id (map settled_set sets) + 1 }) (mending-found sets) ∙ shown c bytes look.next sets fresh)
+    (subst (λ (ks : List Cached). StepsTo (setup_of c) (begun c look.next (map (kept_of (setup_of c) bytes c.places) ks)) (event.Found (map row_of (map settled_set sets)) [])
+    (let m : Machine = begun c look.next (map (kept_of (setup_of c) bytes c.places) (map (come_to mark.Mending) (map settled_set sets))) in record m { stage = Place.Running; next = greatest_id (map settled_set sets) + 1 })) (settled-twice sets)
+    (finds c bytes front.0 front.1.0 look.next (map settled_set sets) front.1.1))) in
+    leads_up first d programs states events' refl (record {
+      run = run_on (setup_of c) first h.state (running bytes d) events events' (event.Found (map row_of (map settled_set sets)) []) more h.run step;
+      so_far = tells_more c.places programs events events' (event.Found (map row_of (map settled_set sets)) []) more (told_looking c.stage c.places programs events at h.told) tt refl;
+      well = record {
+        places = fresh.places;
+        rise = ascend-found 1 sets store.rise;
+        below = below-greatest sets 0 (greatest_id (map settled_set sets)) (omega arith);
+        sets = λ m known. store.sets_are m (known_found c sets m fresh.opened known);
+        opened_run = λ m e. absurd (cc (fresh.opened, e));
+        opened_below = λ m e. absurd (cc (fresh.opened, e));
+        opened_last = λ m e. absurd (cc (fresh.opened, e));
+        output = λ m e. absurd (cc (fresh.opened, e));
+        ranks = ap length fresh.ranks ∙ length-replicate (c.shape.nodes * c.shape.ranks) fresh_seat;
       };
-      told = told_at c.stage stage.Storing program events st leads.told;
-    }
-
--- the last run number is stored already
-pub numbers_over : (first : Machine) (c : Core) (program : List Step) (files : Files) (events events' : List Event)
-    → c.stage ≡ stage.Storing → 4294967295 ≡ run_of files.stored → events' ≡ events ++ event.Stop cause.Runs ∷ []
-    → Leads first c program files events → Leads first (record c { stage = stage.Stopped }) program files events'
-numbers_over first c program files events events' st is more leads =
-    let m = leads.state in
-    let h = holds_at c.stage stage.Storing c files m st leads.holds in
-    let none = told_at c.stage stage.Storing program events st leads.told in
-    let alone : events' ≡ event.Stop cause.Runs ∷ [] = more ∙ ap (λ (es : List Event). es ++ event.Stop cause.Runs ∷ []) none in
-    record {
-      state = stopped m;
-      run = run_on one_node first m (stopped m) events events' (event.Stop cause.Runs) more leads.run (runs_out m h.stands.between (sym (is ∙ h.stands.stored)));
-      holds = record { between = refl; stored = h.stands.stored; kept = h.stands.kept; index = rw (h.stands.between, h.stands.index) refl; halt = rw (h.stands.between, h.stands.halt) refl; mark = rw (h.stands.between, h.stands.mark) refl };
-      told = subst (λ (es : List Event). IsRunOf (0 ∷ []) (program ∷ []) AtEnd es) (sym alone) (record { begin = refl; stop = refl; steps = (tt, tt); place = refl });
-    }
-
-small_run : (n : ℕ) → n + 1 < 2 ^ 32 → IsTrue (nat_lt n 4294967295)
-small_run n fits = grind (arith, fits)
-
-pub number_synced : (first : Machine) (c : Core) (program : List Step) (files : Files) (events events' : List Event)
-    → c.stage ≡ stage.Syncing → events' ≡ events ++ event.Run c.run (0 ∷ []) ∷ []
-    → Leads first c program files events → Leads first (record c { stage = stage.Looking }) program files events'
-number_synced first c program files events events' st more leads =
-    let m = leads.state in
-    let h = holds_at c.stage stage.Syncing c files m st leads.holds in
-    let none = told_at c.stage stage.Syncing program events st leads.told in
-    let alone : events' ≡ event.Run c.run (0 ∷ []) ∷ [] = more ∙ ap (λ (es : List Event). es ++ event.Run c.run (0 ∷ []) ∷ []) none in
-    let new = begun c.run m.next m.kept in
-    record {
-      state = new;
-      run = run_on one_node first m new events events' (event.Run c.run (0 ∷ [])) more leads.run
-          (begins m c.run h.stands.between h.run (small_run m.run (subst (λ k. k < 2 ^ 32) h.run h.fits)), sym (begun_is m c.run h.stands.index h.stands.halt h.stands.mark));
-      holds = record {
-        kept = m.kept;
-        next = m.next;
-        is = refl;
-        stored = h.stands.stored;
-        read = h.stands.kept;
-        fresh = record { phase = h.fresh.phase; number = h.fresh.number; doing = h.fresh.doing; cached = h.fresh.cached; offered = h.fresh.offered; settled = h.fresh.settled };
+      files = record {
+        stored = store.stored;
+        files = λ m known. subst (λ (ps : List ℕ). FilesStand (cells_of states) ps c.shape.ranks m) (sym fresh.places) (store.files m (known_found c sets m fresh.opened known));
+        records = λ i x is sealed. records_at fresh store i x is;
+        others = subst (λ (ps : List ℕ). NoOtherRecords (IsKnown d) (cells_of states) ps) (sym fresh.places)
+            (λ p which node low place foreign. store.others p which node low place (λ m one same home. foreign m (found_known c sets m one) same home));
+        future = λ p which node local j low place sl sj later. look.future p which node local j low place sl sj (from_zero which later);
+        fresh = λ m e. absurd (cc (fresh.opened, e));
       };
-      told = subst (λ (es : List Event). IsSoFar program es) (sym alone) (record { begin = refl; steps = (tt, tt); goes_on = refl });
-    }
+      quiet = λ p q low calm. look.quiet p q low;
+      unrecorded = λ m e. absurd (cc (fresh.opened, e));
+      working = (fresh.opened, none-sealed sets);
+    }) where
+      from_zero : (which : DataId) → IsFuture c.run (greatest_id (map settled_set sets) + 1) which → IsFuture c.run 0 which
+      from_zero which (inl later) = inl later
+      from_zero which (inr same) = inr (same.0, omega arith)
 
--- a run that has just looked
-fresh_is : (c : Core) (s : Stage) (x : Cached) → IsFresh c → record c { stage = s; cached = x } ≡ fresh_core s c.run x
-fresh_is c s x f = core_is (record c { stage = s; cached = x }) (fresh_core s c.run x) refl refl f.phase f.number f.doing refl f.offered f.settled
+      records_at : IsFresh c → StoreHolds (setup_of c) (cells_of states) c.run sets → (i : ℕ) (x : Cached) → slice_get (map found_set sets) i ≡ Some x → RecordsStand (cells_of states) c.places x.manifest
+      records_at fresh store i x is =
+          let m = found-at sets i x is in
+          subst (λ (y : Manifest). RecordsStand (cells_of states) c.places y) (ap (λ (z : Cached). z.manifest) m.2)
+          (subst (λ (ps : List ℕ). RecordsStand (cells_of states) ps m.0) (sym fresh.places) (store.records m.0 (i, m.1)))
 
--- no record is no kept dataset
-none_read : (files : Files) (kept : List Kept) → KeptRead files kept → ((r : Member) → files.member ≡ Some (standing r) → IsMember r → ⊥) → (kept ≡ []) × HasNoFile files
-none_read files [] h e = (refl, record { member = h.0; part = h.1 })
-none_read files (k ∷ []) h e = absurd (e h.0 h.2.member h.2.is_member)
-none_read files (k ∷ l ∷ rest) h e = absurd h
+-- ## What was found is looked after
 
-pub found_none : (first : Machine) (c : Core) (program : List Step) (files : Files) (events events' : List Event)
-    → c.stage ≡ stage.Looking → ((r : Member) → files.member ≡ Some (standing r) → IsMember r → ⊥) → events' ≡ events ++ event.Found [] [] ∷ []
-    → Leads first c program files events → Leads first (record c { stage = stage.Serving; cached = cached.Nothing }) program files events'
-found_none first c program files events events' st shut more leads =
-    let h = holds_at c.stage stage.Looking c files leads.state st leads.holds in
-    let empty = none_read files h.kept h.read shut in
-    let run = subst (λ (m : Machine). RunsTo one_node first events m) (h.is ∙ ap (begun c.run h.next) empty.0) leads.run in
-    let l = up_goes_on first (fresh_core stage.Serving c.run cached.Nothing) program files events events' (begun c.run h.next []) (event.Found [] []) [] more run (finds_none c.run h.next)
-    (told_at c.stage stage.Looking program events st leads.told) tt refl refl h.stored empty.1 tt tt in
-    subst (λ (x : Core). Leads first x program files events') (sym (fresh_is c stage.Serving cached.Nothing h.fresh)) l
+-- a dataset that was found is settled
+pub mends_one : (first : Machine) (c : Core) (programs : List (List Step)) (states : ℕ → DeviceState) (events events' : List Event) (x : Cached) → c.stage ≡ stage.Mending → find mends c.kept ≡ Some x → Leads first c programs states events
+    → events' ≡ events ++ event.Mended x.manifest.desc.which ∷ [] → Leads first (record c { kept = map (settled_if x.manifest.desc.which) c.kept }) programs states events'
+mends_one first c programs states events events' x at next leads more =
+    let h = led first c programs states events (ap is_up at) leads in
+    let working : WorkIs stage.Mending c states = subst (λ (s : Stage). WorkIs s c states) at h.working in
+    let which = x.manifest.desc.which in
+    let d : Core = record c { kept = map (settled_if which) c.kept } in
+    let bytes = contents_of (cells_of states) c in
+    let quiet = subst (λ (s : Stage). (p : ℕ) (q : List ℕ) → p ≤ 32 → (p < c.shape.nodes → IsPending s c q → ⊥) → IsAtRest ((states p).file q)) at h.quiet in
+    let closed = working.0 in
+    let none_sealed : list_any seals (map (settled_if which) c.kept) ≡ false = none-if seals (map (settled_if which) c.kept) (λ i y is. let z = settled-at which c.kept i y is in ap seals (sym z.2) ∙ kept_unsealed which z.0 (none-passes seals c.kept i z.0 working.1 z.1)) in
+    leads_up first d programs states events' (ap is_up at) (record {
+      run = run_on (setup_of c) first (running bytes c) (running bytes d) events events' (event.Mended which) more h.run (mended c bytes x next (lower c.kept h.well.rise));
+      so_far = tells_more c.places programs events events' (event.Mended which) more h.so_far tt refl;
+      well = record {
+        places = h.well.places;
+        rise = ascend-settled which 1 c.kept h.well.rise;
+        below = below-settled which c.next c.kept h.well.below;
+        sets = λ y known. h.well.sets y (known_before which closed y known);
+        opened_run = h.well.opened_run;
+        opened_below = h.well.opened_below;
+        opened_last = λ y e. absurd (cc (closed, e));
+        output = λ y e. absurd (cc (closed, e));
+        ranks = h.well.ranks;
+      };
+      files = record {
+        stored = h.files.stored;
+        files = λ y known. h.files.files y (known_before which closed y known);
+        records = λ i y is sealed. let z = settled-at which c.kept i y is in
+            subst (λ (m : Manifest). RecordsStand (cells_of states) c.places m) (sym (settled-manifest which z.0) ∙ ap (λ (w : Cached). w.manifest) z.2) (h.files.records i z.0 z.1 (none-passes seals c.kept i z.0 working.1 z.1));
+        others = λ p w node low place foreign. h.files.others p w node low place (λ m known same home. foreign m (known_after which m known) same home);
+        future = h.files.future;
+        fresh = h.files.fresh;
+      };
+      quiet = subst (λ (s : Stage). (p : ℕ) (q : List ℕ) → p ≤ 32 → (p < c.shape.nodes → IsPending s d q → ⊥) → IsAtRest ((states p).file q)) (sym at) quiet;
+      unrecorded = subst (λ (s : Stage). NoRecordYet s d (cells_of states)) (sym at) (λ m e. absurd (cc (closed, e)));
+      working = subst (λ (s : Stage). WorkIs s d states) (sym at) (closed, none_sealed);
+    }) where
+      lower : (xs : List Cached) → AscendFrom 1 xs → AscendFrom 0 xs
+      lower [] rise = tt
+      lower (y ∷ ys) rise = (omega arith, rise.1)
 
--- an open record says one thing
-pub record Says (files : Files) (r : Member) : Type 0 where
-  pub bytes : List ℕ
-  pub there : files.member ≡ Some bytes
-  pub is_open : IsOpen bytes r
+      kept_unsealed : (which : DataId) (y : Cached) → seals y ≡ false → seals (settled_if which y) ≡ false
+      kept_unsealed which y not = pick (Rattle.scr_base.specs.Same.same_id y.manifest.desc.which which) where
+        pick : (b : Bool) → seals (Rattle.std.specs.Prelude.if◌then◌else◌ b (come_to mark.Settled y) y) ≡ false
+        pick true = refl
+        pick false = not
 
--- an open record is that of the one kept dataset
-one_read : (files : Files) (kept : List Kept) (r : Member) → KeptRead files kept → files.member ≡ Some (standing r)
-    → ((q : Member) → IsMember q → standing q ≡ standing r → q ≡ r)
-    → (bytes : List ℕ) × (kept ≡ kept_with Settled false r bytes ∷ []) × IsHeld files r bytes
-one_read files [] r h e same = absurd (let x : Some (standing r) ≡ None = sym e ∙ h.0 in cc)
-one_read files (k ∷ []) r h e same =
-    let bytes = ap (λ (o : Option (List ℕ)). unwrap_or o []) (sym h.2.member ∙ e) in
-    let is = same h.0 h.2.is_member bytes in
-    (h.1, ap (λ (x : Kept). x ∷ []) (h.3 ∙ ap (λ (x : Member). kept_with Settled false x h.1) is), subst (λ (x : Member). IsHeld files x h.1) is h.2)
-one_read files (k ∷ l ∷ rest) r h e same = absurd h
+      known_before : (which : DataId) → c.opened ≡ None → (y : Manifest) → IsKnown (record c { kept = map (settled_if which) c.kept }) y → IsKnown c y
+      known_before which closed y (inl e) = inl e
+      known_before which closed y (inr among) =
+          let z = settled-at which c.kept among.0 among.1 among.2 in
+          inr (among.0, z.0, z.1, sym (settled-manifest which z.0) ∙ ap (λ (w : Cached). w.manifest) z.2 ∙ among.3)
 
-pub found_one : (first : Machine) (c : Core) (program : List Step) (files : Files) (events events' : List Event) (r : Member)
-    → c.stage ≡ stage.Looking → files.member ≡ Some (standing r) → ((q : Member) → IsMember q → standing q ≡ standing r → q ≡ r) → events' ≡ events ++ event.Found (row ∷ []) [] ∷ []
-    → Leads first c program files events → Leads first (record c { stage = stage.Mending; cached = cached.Kept r }) program files events'
-found_one first c program files events events' r st stands same more leads =
-    let h = holds_at c.stage stage.Looking c files leads.state st leads.holds in
-    let one_kept = one_read files h.kept r h.read stands same in
-    let run = subst (λ (m : Machine). RunsTo one_node first events m) (h.is ∙ ap (begun c.run h.next) one_kept.1) leads.run in
-    let l = up_goes_on first (fresh_core stage.Mending c.run (cached.Kept r)) program files events events' (begun c.run h.next (kept_with Settled false r one_kept.0 ∷ [])) (event.Found (row ∷ []) []) one_kept.0 more run (finds_one c.run h.next r one_kept.0)
-    (told_at c.stage stage.Looking program events st leads.told) tt refl refl h.stored one_kept.2 ((r, refl), refl) tt in
-    subst (λ (x : Core). Leads first x program files events') (sym (fresh_is c stage.Mending (cached.Kept r) h.fresh)) l
+      known_after : (which : DataId) (y : Manifest) → IsKnown c y → IsKnown (record c { kept = map (settled_if which) c.kept }) y
+      known_after which y (inl e) = inl e
+      known_after which y (inr among) = inr (among.0, settled_if which among.1, settled-there which c.kept among.0 among.1 among.2, settled-manifest which among.1 ∙ among.3)
 
-pub looked : (first : Machine) (c : Core) (program : List Step) (files : Files) (events events' : List Event) (seen : Option Member)
-    → c.stage ≡ stage.Looking → Looks files.member seen → events' ≡ events ++ event.Found (rows_for seen) [] ∷ []
-    → Leads first c program files events → Leads first (found_core c seen) program files events'
-looked first c program files events events' None st looks more leads = found_none first c program files events events' st looks more leads
-looked first c program files events events' (Some r) st looks more leads =
-    found_one first c program files events events' r st looks.1 (λ q is same. same_member q r is looks.0 same) more leads
-
-pub mended : (first : Machine) (c : Core) (program : List Step) (files : Files) (events events' : List Event)
-    → c.stage ≡ stage.Mending → events' ≡ events ++ event.Mended one ∷ []
-    → Leads first c program files events → Leads first (record c { stage = stage.Serving }) program files events'
-mended first c program files events events' st more leads =
-    let h = led first c program files events (ap is_up st) leads in
-    let work : WorkIs stage.Mending c = subst (λ (x : Stage). WorkIs x c) st h.work in
-    let r = work.0.0 in
-    let e : Core = record c { stage = stage.Serving; cached = cached.Kept r } in
-    let held : IsHeld files r h.bytes = held_as stage.Mending _ (cached.Kept r) files h.bytes work.0.1 (held_at _ _ c.cached files h.bytes st h.held) in
-    serves first c (record c { stage = stage.Mending; cached = cached.Kept r }) e (record c { stage = stage.Serving }) program files events events' (event.Mended one) h
-    (core_is c _ st refl refl refl refl work.0.1 refl refl) (core_is e _ refl refl refl refl refl (sym work.0.1) refl refl)
-    (mends c r h.bytes) more tt refl refl refl held tt (subst (λ (x : Cached). OfferIs c.phase x c.offered) work.0.1 h.offer)
-
--- ## The end
-
-no_script : (e : Event) → IsTrue (not (is_stop e)) → IsTrue (not (is_script_stop e))
-no_script (event.Stop why) h = absurd (cc)
-no_script _ h = refl
-
-all_but_last : (events : List Event) (e : Event) → IsTrue (list_all (λ x. not (is_stop x)) events) → IsTrue (is_stop e) → IsTrue (ends_with_stop (events ++ e ∷ []))
-all_but_last [] e h stop = stop
-all_but_last (f ∷ []) e h stop = grind (arith, h, stop)
-all_but_last (f ∷ g ∷ events) e h stop = grind (arith, h, all_but_last (g ∷ events) e)
-
-script_free : (events : List Event) → IsTrue (list_all (λ x. not (is_stop x)) events) → IsTrue (list_all (λ x. not (is_script_stop x)) events)
-script_free [] h = refl
-script_free (f ∷ events) h =
-    let both = and_true (not (is_stop f)) (list_all (λ x. not (is_stop x)) events) h in
-    all_front (λ x. not (is_script_stop x)) f events (no_script f both.0) (script_free events both.1)
-
--- what is in cache, once nothing is open
-kept_left : (s : Stage) (x : Cached) (files : Files) (bytes : List ℕ) → is_shut x ≡ true → FilesAre s x files bytes → KeptRead files (kept_of Settled false x bytes)
-kept_left s cached.Nothing files bytes e h = (h.member, h.part)
-kept_left s (cached.Named name) files bytes e h = absurd (cc)
-kept_left s (cached.Routed r) files bytes e h = absurd (cc)
-kept_left s (cached.Kept r) files bytes e h = (r, bytes, h, refl)
-
-pub ended : (first : Machine) (c : Core) (program : List Step) (files : Files) (events events' : List Event)
-    → c.stage ≡ stage.Serving → c.doing ≡ doing.Waits step.End → is_shut c.cached ≡ true → events' ≡ events ++ event.Stop cause.Ended ∷ []
-    → Leads first c program files events → Leads first (record c { stage = stage.Stopped }) program files events'
-ended first c program files events events' st does none_open more leads =
-    let h = led first c program files events (ap is_up st) leads in
-    let d : Core = record c { stage = stage.Serving; doing = doing.Waits step.End } in
-    let run = subst (λ (x : Core). RunsTo one_node first events (running x h.bytes)) (core_is c d st refl refl refl does refl refl refl) h.run in
-    let all : IsTrue (ends_with_stop (events ++ event.Stop cause.Ended ∷ [])) = all_but_last events (event.Stop cause.Ended) h.so_far.goes_on refl in
-    let told = tells_end program events (event.Stop cause.Ended) h.so_far tt refl in
-    record {
-      state = stopped (running d h.bytes);
-      run = run_on one_node first (running d h.bytes) (stopped (running d h.bytes)) events events' (event.Stop cause.Ended) more run (ends c h.bytes);
-      holds = record { between = refl; stored = h.stored; kept = kept_left stage.Serving c.cached files h.bytes none_open (held_at _ _ c.cached files h.bytes st h.held); index = refl; halt = refl; mark = refl };
-      told = subst (λ (es : List Event). IsRunOf (0 ∷ []) (program ∷ []) AtEnd es) (sym more) (record { begin = told.0; stop = all; steps = told.1; place = all_more_of (λ x. not (is_script_stop x)) events (event.Stop cause.Ended) (script_free events h.so_far.goes_on) refl });
-    }
-
--- ## A site that was just begun
-
-pub begun_leads : (first : Machine) (c : Core) (program : List Step) (files : Files) (events : List Event) → c.stage ≡ stage.Storing → IsFresh c → events ≡ [] → StandsFor files first → Leads first c program files events
-begun_leads first c program files events st fresh none stands = record {
-  state = first;
-  run = subst (λ (es : List Event). RunsTo one_node first es first) (sym none) refl;
-  holds = holds_at stage.Storing c.stage c files first (sym st) (record { stands = stands; fresh = fresh });
-  told = told_at stage.Storing c.stage program events (sym st) none;
-}
+-- the last is looked after: the run serves
+pub serves_now : (first : Machine) (c : Core) (programs : List (List Step)) (states : ℕ → DeviceState) (events : List Event) → c.stage ≡ stage.Mending → list_any mends c.kept ≡ false → Leads first c programs states events → Leads first (record c { stage = stage.Serving }) programs states events
+serves_now first c programs states events at none leads =
+    let h = led first c programs states events (ap is_up at) leads in
+    let working : WorkIs stage.Mending c states = subst (λ (s : Stage). WorkIs s c states) at h.working in
+    let quiet = subst (λ (s : Stage). (p : ℕ) (q : List ℕ) → p ≤ 32 → (p < c.shape.nodes → IsPending s c q → ⊥) → IsAtRest ((states p).file q)) at h.quiet in
+    let d : Core = record c { stage = stage.Serving } in
+    leads_up first d programs states events refl (record {
+      run = h.run;
+      so_far = h.so_far;
+      well = record { places = h.well.places; rise = h.well.rise; below = h.well.below; sets = h.well.sets; opened_run = h.well.opened_run; opened_below = h.well.opened_below; opened_last = h.well.opened_last; output = h.well.output; ranks = h.well.ranks };
+      files = record { stored = h.files.stored; files = h.files.files; records = h.files.records; others = h.files.others; future = h.files.future; fresh = h.files.fresh };
+      quiet = quiet;
+      unrecorded = λ m e. absurd (cc (working.0, e));
+      working = (none, working.1);
+    })

@@ -1,96 +1,85 @@
 -- A history that is one event longer, and what holds at a stage that is known.
-use Rattle.std.proofs.Common.{◌≡◌, ℕ, Bool, true, false, List, [], ◌∷◌, ◌++◌, refl, sym, ap, ◌∙◌, subst, arith}
+use Rattle.std.proofs.Common.{◌≡◌, ◌≤◌, ◌<◌, ℕ, Bool, true, false, List, [], ◌∷◌, ◌++◌, length, refl, sym, ap, ◌∙◌, subst, Option, Some}
 use Rattle.std.specs.Prelude.{IsTrue, not, ◌&&◌}
 use Rattle.std.specs.List.{list_all}
 use Rattle.scr_base.specs.declared.content.Step.{Step}
+use Rattle.scr_base.specs.declared.answers.Phase.{Phase}
+use Rattle.scr_base.specs.declared.answers.Phase.TheVariants as phase
+use Rattle.scr_base.specs.declared.shape.DataId.{DataId}
+use Rattle.node_device.specs.DeviceState.{DeviceState}
 use Rattle.ckpt_model.specs.declared.event.Event.{Event}
 use Rattle.ckpt_model.specs.declared.event.Event.TheVariants as event
 use Rattle.ckpt_model.specs.Machine.{Machine}
 use Rattle.ckpt_model.specs.Legal.{AreOfPrograms, IsOfProgram, begins_run, is_stop}
 use Rattle.ckpt_model.specs.Runs.{StepsTo, RunsTo}
 use Rattle.ckpt_model.proofs.RunLemmas.{run_on}
+use Rattle.round_core.specs.declared.seat.Seat.{Seat}
+use Rattle.site_core.specs.declared.cache.Manifest.{Manifest}
 use Rattle.site_core.specs.declared.core_state.Stage.{Stage}
 use Rattle.site_core.specs.declared.core_state.Stage.TheVariants as stage
 use Rattle.site_core.specs.declared.core_state.Core.{Core}
-use Rattle.site_core.specs.Form.{one_node}
-use Rattle.site_core.specs.Records.{Files, run_of}
-use Rattle.site_core.specs.Shown.{running}
-use Rattle.site_core.specs.Holds.{IsUp, HoldsAt, IsSoFar, ToldAt, Leads, FilesAre, WorkIs, OfferIs}
+use Rattle.site_core.specs.Shown.{running, setup_of, served}
+use Rattle.site_core.specs.Stored.{Cells, cells_of, contents_of, FilesHold, IsWell}
+use Rattle.site_core.specs.Holds.{IsUp, HoldsAt, IsSoFar, ToldAt, Leads, WorkIs, NoRecordYet, IsPending}
 
 -- recovery has looked, and the run isn't over
 abbrev pub is_up : Stage → Bool
+is_up stage.Begun = false
 is_up stage.Storing = false
-is_up stage.Syncing = false
 is_up stage.Looking = false
 is_up stage.Stopped = false
 is_up _ = true
 
-pub up_at : (s : Stage) (c : Core) (files : Files) (m : Machine) → is_up s ≡ true → HoldsAt s c files m → IsUp c files m
-up_at stage.Storing c files m e h = absurd (cc)
-up_at stage.Syncing c files m e h = absurd (cc)
-up_at stage.Looking c files m e h = absurd (cc)
-up_at stage.Stopped c files m e h = absurd (cc)
-up_at stage.Mending c files m e h = h
-up_at stage.Serving c files m e h = h
-up_at stage.Recorded c files m e h = h
-up_at stage.Synced c files m e h = h
-up_at stage.Sealing c files m e h = h
-up_at stage.Sealed c files m e h = h
+pub up_at : (s : Stage) (c : Core) (states : ℕ → DeviceState) (m : Machine) → is_up s ≡ true → HoldsAt s c states m → IsUp c states m
+up_at stage.Begun c states m e h = absurd (cc)
+up_at stage.Storing c states m e h = absurd (cc)
+up_at stage.Looking c states m e h = absurd (cc)
+up_at stage.Stopped c states m e h = absurd (cc)
+up_at stage.Mending c states m e h = h
+up_at stage.Serving c states m e h = h
+up_at (stage.Saving w n) c states m e h = h
 
-pub at_up : (s : Stage) (c : Core) (files : Files) (m : Machine) → is_up s ≡ true → IsUp c files m → HoldsAt s c files m
-at_up stage.Storing c files m e h = absurd (cc)
-at_up stage.Syncing c files m e h = absurd (cc)
-at_up stage.Looking c files m e h = absurd (cc)
-at_up stage.Stopped c files m e h = absurd (cc)
-at_up stage.Mending c files m e h = h
-at_up stage.Serving c files m e h = h
-at_up stage.Recorded c files m e h = h
-at_up stage.Synced c files m e h = h
-at_up stage.Sealing c files m e h = h
-at_up stage.Sealed c files m e h = h
+pub at_up : (s : Stage) (c : Core) (states : ℕ → DeviceState) (m : Machine) → is_up s ≡ true → IsUp c states m → HoldsAt s c states m
+at_up stage.Begun c states m e h = absurd (cc)
+at_up stage.Storing c states m e h = absurd (cc)
+at_up stage.Looking c states m e h = absurd (cc)
+at_up stage.Stopped c states m e h = absurd (cc)
+at_up stage.Mending c states m e h = h
+at_up stage.Serving c states m e h = h
+at_up (stage.Saving w n) c states m e h = h
 
-pub told_up : (s : Stage) (program : List Step) (events : List Event) → is_up s ≡ true → ToldAt s program events → IsSoFar program events
-told_up stage.Storing program events e h = absurd (cc)
-told_up stage.Syncing program events e h = absurd (cc)
-told_up stage.Looking program events e h = absurd (cc)
-told_up stage.Stopped program events e h = absurd (cc)
-told_up stage.Mending program events e h = h
-told_up stage.Serving program events e h = h
-told_up stage.Recorded program events e h = h
-told_up stage.Synced program events e h = h
-told_up stage.Sealing program events e h = h
-told_up stage.Sealed program events e h = h
+pub told_up : (s : Stage) (places : List ℕ) (programs : List (List Step)) (events : List Event) → is_up s ≡ true → ToldAt s places programs events → IsSoFar places programs events
+told_up stage.Begun places programs events e h = absurd (cc)
+told_up stage.Storing places programs events e h = absurd (cc)
+told_up stage.Looking places programs events e h = absurd (cc)
+told_up stage.Stopped places programs events e h = absurd (cc)
+told_up stage.Mending places programs events e h = h
+told_up stage.Serving places programs events e h = h
+told_up (stage.Saving w n) places programs events e h = h
 
-pub up_told : (s : Stage) (program : List Step) (events : List Event) → is_up s ≡ true → IsSoFar program events → ToldAt s program events
-up_told stage.Storing program events e h = absurd (cc)
-up_told stage.Syncing program events e h = absurd (cc)
-up_told stage.Looking program events e h = absurd (cc)
-up_told stage.Stopped program events e h = absurd (cc)
-up_told stage.Mending program events e h = h
-up_told stage.Serving program events e h = h
-up_told stage.Recorded program events e h = h
-up_told stage.Synced program events e h = h
-up_told stage.Sealing program events e h = h
-up_told stage.Sealed program events e h = h
+pub up_told : (s : Stage) (places : List ℕ) (programs : List (List Step)) (events : List Event) → is_up s ≡ true → IsSoFar places programs events → ToldAt s places programs events
+up_told stage.Begun places programs events e h = absurd (cc)
+up_told stage.Storing places programs events e h = absurd (cc)
+up_told stage.Looking places programs events e h = absurd (cc)
+up_told stage.Stopped places programs events e h = absurd (cc)
+up_told stage.Mending places programs events e h = h
+up_told stage.Serving places programs events e h = h
+up_told (stage.Saving w n) places programs events e h = h
 
 -- ## One event more
 
-begins_front : (f : Event) (events : List Event) (e : Event) → IsTrue (begins_run (0 ∷ []) (f ∷ events)) → IsTrue (begins_run (0 ∷ []) (f ∷ (events ++ e ∷ [])))
-begins_front (event.Run run at) events e h = h
-begins_front (event.Stop why) events e h = h
-begins_front _ events e h = h
+begins_front : (places : List ℕ) (f : Event) (events : List Event) (e : Event) → IsTrue (begins_run places (f ∷ events)) → IsTrue (begins_run places (f ∷ (events ++ e ∷ [])))
+begins_front places (event.Run run at) events e h = h
+begins_front places (event.Stop why) events e h = h
+begins_front places _ events e h = h
 
-begins_still : (events : List Event) (e : Event) → IsTrue (begins_run (0 ∷ []) events) → IsTrue (begins_run (0 ∷ []) (events ++ e ∷ []))
-begins_still [] e h = absurd (cc)
-begins_still (f ∷ events) e h = begins_front f events e h
+begins_still : (places : List ℕ) (events : List Event) (e : Event) → IsTrue (begins_run places events) → IsTrue (begins_run places (events ++ e ∷ []))
+begins_still places [] e h = absurd (cc)
+begins_still places (f ∷ events) e h = begins_front places f events e h
 
 of_programs_more : (programs : List (List Step)) (events : List Event) (e : Event) → AreOfPrograms programs events → IsOfProgram programs e → AreOfPrograms programs (events ++ e ∷ [])
 of_programs_more programs [] e h one = (one, tt)
 of_programs_more programs (f ∷ events) e h one = (h.0, of_programs_more programs events e h.1 one)
-
--- a list whose tests all hold, from its front
-pub all_front : (test : Event → Bool) (f : Event) (events : List Event) → IsTrue (test f) → IsTrue (list_all test events) → IsTrue (list_all test (f ∷ events))
-all_front test f events a b = grind (arith, a, b)
 
 first_of_all : (test : Event → Bool) (f : Event) (events : List Event) → IsTrue (list_all test (f ∷ events)) → IsTrue (test f && list_all test events)
 first_of_all test f events h = h
@@ -99,73 +88,91 @@ pub and_true : (a b : Bool) → IsTrue (a && b) → IsTrue a × IsTrue b
 and_true true b h = (refl, h)
 and_true false b h = absurd (cc)
 
-pub all_more_of : (test : Event → Bool) (events : List Event) (e : Event) → IsTrue (list_all test events) → IsTrue (test e) → IsTrue (list_all test (events ++ e ∷ []))
-all_more_of test [] e h one = grind (arith, one)
-all_more_of test (f ∷ events) e h one =
-    let both = and_true (test f) (list_all test events) (first_of_all test f events h) in
-    all_front test f (events ++ e ∷ []) both.0 (all_more_of test events e both.1 one)
+both : (a b : Bool) → IsTrue a → IsTrue b → IsTrue (a && b)
+both true b p q = q
+both false b p q = absurd (cc p)
 
-pub tells_more : (program : List Step) (events events' : List Event) (e : Event) → events' ≡ events ++ e ∷ [] → IsSoFar program events → IsOfProgram (program ∷ []) e → is_stop e ≡ false → IsSoFar program events'
-tells_more program events events' e is so_far one goes = subst (λ (es : List Event). IsSoFar program es) (sym is) (record {
-  begin = begins_still events e so_far.begin;
-  steps = of_programs_more (program ∷ []) events e so_far.steps one;
+pub all_more_of : (test : Event → Bool) (events : List Event) (e : Event) → IsTrue (list_all test events) → IsTrue (test e) → IsTrue (list_all test (events ++ e ∷ []))
+all_more_of test [] e h one = both (test e) true one refl
+all_more_of test (f ∷ events) e h one =
+    let parts = and_true (test f) (list_all test events) (first_of_all test f events h) in
+    both (test f) _ parts.0 (all_more_of test events e parts.1 one)
+
+pub tells_more : (places : List ℕ) (programs : List (List Step)) (events events' : List Event) (e : Event) → events' ≡ events ++ e ∷ [] → IsSoFar places programs events → IsOfProgram programs e → is_stop e ≡ false → IsSoFar places programs events'
+tells_more places programs events events' e is so_far one goes = subst (λ (es : List Event). IsSoFar places programs es) (sym is) (record {
+  begin = begins_still places events e so_far.begin;
+  steps = of_programs_more programs events e so_far.steps one;
   goes_on = all_more_of (λ x. not (is_stop x)) events e so_far.goes_on (ap not goes);
 })
 
 -- the event may be the run's last
-pub tells_end : (program : List Step) (events : List Event) (e : Event) → IsSoFar program events → IsOfProgram (program ∷ []) e → is_stop e ≡ true
-    → IsTrue (begins_run (0 ∷ []) (events ++ e ∷ [])) × AreOfPrograms (program ∷ []) (events ++ e ∷ [])
-tells_end program events e so_far one stops = (begins_still events e so_far.begin, of_programs_more (program ∷ []) events e so_far.steps one)
+pub tells_end : (places : List ℕ) (programs : List (List Step)) (events : List Event) (e : Event) → IsSoFar places programs events → IsOfProgram programs e
+    → IsTrue (begins_run places (events ++ e ∷ [])) × AreOfPrograms programs (events ++ e ∷ [])
+tells_end places programs events e so_far one = (begins_still places events e so_far.begin, of_programs_more programs events e so_far.steps one)
 
--- ## A run that is up goes on
-
-pub up_goes_on : (first : Machine) (c : Core) (program : List Step) (files : Files) (events events' : List Event) (m : Machine) (e : Event) (bytes : List ℕ)
-    → events' ≡ events ++ e ∷ [] → RunsTo one_node first events m → StepsTo one_node m e (running c bytes)
-    → IsSoFar program events → IsOfProgram (program ∷ []) e → is_stop e ≡ false
-    → is_up c.stage ≡ true → run_of files.stored ≡ c.run → FilesAre c.stage c.cached files bytes → WorkIs c.stage c → OfferIs c.phase c.cached c.offered
-    → Leads first c program files events'
-up_goes_on first c program files events events' m e bytes is run step so_far one goes up stored held work offer = record {
-  state = running c bytes;
-  run = run_on one_node first m (running c bytes) events events' e is run step;
-  holds = at_up c.stage c files (running c bytes) up (record { bytes = bytes; is = refl; stored = stored; held = held; work = work; offer = offer });
-  told = up_told c.stage program events' up (tells_more program events events' e is so_far one goes);
-}
-
--- a move without an event, after which the memory shows the same state
-pub up_stays : (first : Machine) (c : Core) (program : List Step) (files : Files) (events : List Event) (m : Machine) (bytes : List ℕ)
-    → RunsTo one_node first events m → m ≡ running c bytes → IsSoFar program events
-    → is_up c.stage ≡ true → run_of files.stored ≡ c.run → FilesAre c.stage c.cached files bytes → WorkIs c.stage c → OfferIs c.phase c.cached c.offered
-    → Leads first c program files events
-up_stays first c program files events m bytes run is so_far up stored held work offer = record {
-  state = m;
-  run = run;
-  holds = at_up c.stage c files m up (record { bytes = bytes; is = is; stored = stored; held = held; work = work; offer = offer });
-  told = up_told c.stage program events up so_far;
-}
+-- ## A run that is up
 
 -- what is known of a run that is up
-pub record IsLed (first : Machine) (c : Core) (program : List Step) (files : Files) (events : List Event) : Type 0 where
-  pub bytes : List ℕ
-  pub run : RunsTo one_node first events (running c bytes)
-  pub so_far : IsSoFar program events
-  pub stored : run_of files.stored ≡ c.run
-  pub held : FilesAre c.stage c.cached files bytes
-  pub work : WorkIs c.stage c
-  pub offer : OfferIs c.phase c.cached c.offered
+pub record IsLed (first : Machine) (c : Core) (programs : List (List Step)) (states : ℕ → DeviceState) (events : List Event) : Type 0 where
+  pub run : RunsTo (setup_of c) first events (running (contents_of (cells_of states) c) c)
+  pub so_far : IsSoFar c.places programs events
+  pub well : IsWell c
+  pub files : FilesHold c (cells_of states)
+  pub quiet : (p : ℕ) (q : List ℕ) → p ≤ 32 → (p < c.shape.nodes → IsPending c.stage c q → ⊥) → Rattle.node_device.specs.File.IsAtRest ((states p).file q)
+  pub unrecorded : NoRecordYet c.stage c (cells_of states)
+  pub working : WorkIs c.stage c states
 
-pub led : (first : Machine) (c : Core) (program : List Step) (files : Files) (events : List Event) → is_up c.stage ≡ true → Leads first c program files events → IsLed first c program files events
-led first c program files events up leads =
-    let h = up_at c.stage c files leads.state up leads.holds in
+pub led : (first : Machine) (c : Core) (programs : List (List Step)) (states : ℕ → DeviceState) (events : List Event) → is_up c.stage ≡ true → Leads first c programs states events → IsLed first c programs states events
+led first c programs states events up leads =
+    let h = up_at c.stage c states leads.state up leads.holds in
     record {
-      bytes = h.bytes;
-      run = subst (λ (m : Machine). RunsTo one_node first events m) h.is leads.run;
-      so_far = told_up c.stage program events up leads.told;
-      stored = h.stored;
-      held = h.held;
-      work = h.work;
-      offer = h.offer;
+      run = subst (λ (m : Machine). RunsTo (setup_of c) first events m) h.is leads.run;
+      so_far = told_up c.stage c.places programs events up leads.told;
+      well = h.well;
+      files = h.files;
+      quiet = h.quiet;
+      unrecorded = h.unrecorded;
+      working = h.working;
     }
+
+pub leads_up : (first : Machine) (c : Core) (programs : List (List Step)) (states : ℕ → DeviceState) (events : List Event) → is_up c.stage ≡ true → IsLed first c programs states events → Leads first c programs states events
+leads_up first c programs states events up h = record {
+  state = running (contents_of (cells_of states) c) c;
+  run = h.run;
+  holds = at_up c.stage c states (running (contents_of (cells_of states) c) c) up (record { is = refl; well = h.well; files = h.files; quiet = h.quiet; unrecorded = h.unrecorded; working = h.working });
+  told = up_told c.stage c.places programs events up h.so_far;
+}
 
 -- what was pushed behind what was there
 pub appended : (a b c : List Event) (e e' : Event) → a ≡ b ++ e ∷ [] → b ≡ c → e ≡ e' → a ≡ c ++ e' ∷ []
 appended a b c e e' p q r = p ∙ ap (λ x. x ++ e ∷ []) q ∙ ap (λ x. c ++ x ∷ []) r
+
+-- ## Serving, with no file changed
+
+served_well : (c : Core) (p : Phase) (o : Option DataId) (ranks : List Seat) → length ranks ≡ length c.ranks → ((m : Manifest) → c.opened ≡ Some m → p ≡ phase.Output) → IsWell c → IsWell (served c p o ranks)
+served_well c p o ranks same output w = record { output = output; places = w.places; rise = w.rise; below = w.below; sets = w.sets; opened_run = w.opened_run; opened_below = w.opened_below; opened_last = w.opened_last; ranks = same ∙ w.ranks }
+
+served_files : (c : Core) (p : Phase) (o : Option DataId) (ranks : List Seat) (cells : Cells) → FilesHold c cells → FilesHold (served c p o ranks) cells
+served_files c p o ranks cells f = record { stored = f.stored; files = f.files; records = f.records; others = f.others; future = f.future; fresh = f.fresh }
+
+pub serves : (first : Machine) (c : Core) (programs : List (List Step)) (states : ℕ → DeviceState) (events events' : List Event) (e : Event) (p : Phase) (o : Option DataId) (ranks : List Seat)
+    → c.stage ≡ stage.Serving → length ranks ≡ length c.ranks → ((m : Manifest) → c.opened ≡ Some m → p ≡ phase.Output) → IsLed first c programs states events
+    → StepsTo (setup_of c) (running (contents_of (cells_of states) c) c) e (running (contents_of (cells_of states) c) (served c p o ranks))
+    → IsOfProgram programs e → is_stop e ≡ false → events' ≡ events ++ e ∷ [] → Leads first (served c p o ranks) programs states events'
+serves first c programs states events events' e p o ranks at same output h step one goes more =
+    let d = served c p o ranks in
+    let serving : Core = record d { stage = stage.Serving } in
+    let bytes = contents_of (cells_of states) c in
+    let work : WorkIs stage.Serving c states = subst (λ (s : Stage). WorkIs s c states) at h.working in
+    let none : NoRecordYet stage.Serving c (cells_of states) = subst (λ (s : Stage). NoRecordYet s c (cells_of states)) at h.unrecorded in
+    let quiet = subst (λ (s : Stage). (p : ℕ) (q : List ℕ) → p ≤ 32 → (p < c.shape.nodes → IsPending s c q → ⊥) → Rattle.node_device.specs.File.IsAtRest ((states p).file q)) at h.quiet in
+    let l : IsLed first d programs states events' = record {
+      run = run_on (setup_of c) first (running bytes c) (running bytes d) events events' e more h.run step;
+      so_far = tells_more c.places programs events events' e more h.so_far one goes;
+      well = served_well c p o ranks same output h.well;
+      files = served_files c p o ranks (cells_of states) h.files;
+      quiet = subst (λ (s : Stage). (p : ℕ) (q : List ℕ) → p ≤ 32 → (p < c.shape.nodes → IsPending s d q → ⊥) → Rattle.node_device.specs.File.IsAtRest ((states p).file q)) (sym at) quiet;
+      unrecorded = subst (λ (s : Stage). NoRecordYet s d (cells_of states)) (sym at) none;
+      working = subst (λ (s : Stage). WorkIs s d states) (sym at) work;
+    } in
+    leads_up first d programs states events' (ap is_up at) l

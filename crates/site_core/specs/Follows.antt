@@ -1,59 +1,56 @@
--- A site's history is a run of the machine to a state for which its memory and its devices stand; and why it refuses.
-use Rattle.std.specs.Prelude.{◌≡◌, ◌≤◌, ◌<◌, ◌⊎◌, ℕ, true, List, [], ◌∷◌, ◌++◌, length, Some, Result, Err}
-use Rattle.scr_base.specs.Causes.{Rose}
+-- A site's history is a run of the machine to a state for which its memory and its devices stand.
+use Rattle.std.specs.Prelude.{◌≡◌, ◌≤◌, ◌<◌, ◌+◌, ◌^◌, ℕ, true, false, List, ◌++◌, length, map, slice_get, slice_set, Option, Some, None}
 use Rattle.scr_base.specs.declared.actor.Actor.{Actor}
 use Rattle.scr_base.specs.declared.actor.Actor.TheVariants.{Rank}
+use Rattle.scr_base.specs.declared.answers.Phase.{Phase}
+use Rattle.scr_base.specs.declared.answers.Phase.TheVariants.{Output}
+use Rattle.scr_base.specs.declared.answers.Reply.{Reply}
 use Rattle.scr_base.specs.declared.content.Step.{Step}
-use Rattle.node_device.specs.File.{written, bytes_of}
-use Rattle.node_device.specs.DeviceState.{DeviceState, ChangesOnly, used_of}
-use Rattle.node_device.specs.Answers.{Passes}
+use Rattle.scr_base.specs.declared.shape.DataId.{DataId}
+use Rattle.node_device.specs.DeviceState.{DeviceState}
 use Rattle.node_device.specs.Rack.{states_of}
-use Rattle.ckpt_model.specs.Machine.{Machine}
-use Rattle.ckpt_model.specs.Legal.{IsRunOf}
+use Rattle.ckpt_model.specs.Machine.{Machine, Setup}
+use Rattle.ckpt_model.specs.Legal.{IsRunOf, is_step_of}
 use Rattle.ckpt_model.specs.Legal.Place.{AtEnd}
-use Rattle.ckpt_model.specs.Runs.{RunsTo}
+use Rattle.ckpt_model.specs.Runs.{RunsTo, StepsTo}
 use Rattle.ckpt_model.specs.declared.event.Event.{Event}
+use Rattle.ckpt_model.specs.declared.event.Event.TheVariants as event
+use Rattle.ckpt_model.specs.declared.event.Kind.{Kind}
+use Rattle.round_core.specs.declared.seat.Seat.{Seat}
+use Rattle.scr_base.specs.Calls.{is_local, is_end}
+use Rattle.scr_base.specs.declared.answers.Refusal.{Refusal}
+use Rattle.scr_base.specs.declared.answers.Reply.TheVariants as replies
+use Rattle.ckpt_model.specs.Answers.{is_fault}
+use Rattle.round_core.specs.Seats.{is_complete, first_call, owed, is_free, next_number, stepped}
 use Rattle.site_core.specs.declared.site.Site.{Site}
+use Rattle.site_core.specs.declared.core_state.Core.{Core}
+use Rattle.site_core.specs.declared.cache.Manifest.{Manifest}
+use Rattle.site_core.specs.declared.core_state.Work.{Work}
 use Rattle.site_core.specs.declared.core_state.Stage.TheVariants.{Stopped}
-use Rattle.site_core.specs.declared.error.SiteError.{SiteError}
-use Rattle.site_core.specs.declared.error.SiteError.TheVariants.{Fault, Full}
-use Rattle.site_core.specs.Form.{one_node}
-use Rattle.site_core.specs.Records.{Files, run_file, member_file, part_file}
-use Rattle.site_core.specs.Holds.{StandsFor, Leads}
-
--- the node and the prefix tell their contents
-pub record Tells (states : ℕ → DeviceState) : Type 0 where
-  pub node : (states 0).tells ≡ true
-  pub prefix : (states 32).tells ≡ true
-
--- what the three files hold
-abbrev pub files_in : (ℕ → DeviceState) → Files
-files_in states = record {
-  stored = ((states 32).file run_file).now;
-  member = ((states 0).file member_file).now;
-  part = ((states 0).file part_file).now;
-}
+use Rattle.site_core.specs.Shown.{Contents, running, setup_of, served}
+use Rattle.site_core.specs.Choosing.{verdict_of}
+use Rattle.site_core.specs.Calls.{TellsAll}
+use Rattle.site_core.specs.Stored.{cells_of, contents_of}
+use Rattle.site_core.specs.Holds.{StandsFor, HasRest, Leads, IsSaving}
 
 -- between two runs the devices stand for this state
-pub record Stands (states : ℕ → DeviceState) (m : Machine) : Type 0 where
-  pub tells : Tells states
-  pub stands : StandsFor (files_in states) m
+abbrev pub Stands : Setup → (ℕ → DeviceState) → Machine → Type 0
+Stands s states m = StandsFor s states m
 
 -- the history leads from this state to one for which the site stands
-pub record Follows {D : Type 0} (state : D → DeviceState) (first : Machine) (site : Site D) : Type 0 where
-  pub tells : Tells (states_of state site.bay)
-  pub leads : Leads first site.core site.program.items (files_in (states_of state site.bay)) site.history.events
+abbrev pub Follows : {D : Type 0} → (D → DeviceState) → Machine → Site D → Type 0
+Follows state first site = Leads first site.core site.programs (states_of state site.bay) site.history.events
 
--- from whatever state the history led, it still does
+-- where the devices tell what they hold: from whatever state the history led, it still does
 abbrev pub Keeps : {D : Type 0} → (D → DeviceState) → Site D → Site D → Type 0
-Keeps state old new = (first : Machine) → Follows state first old → Follows state first new
+Keeps state old new = TellsAll state → (first : Machine) → Follows state first old → Follows state first new
 
--- the events of a whole run lead from this state to one for which the devices stand
-pub record Ends (states : ℕ → DeviceState) (first : Machine) (program : List Step) (events : List Event) : Type 0 where
+-- the events of a whole run lead from this state to one that the devices come to rest for
+pub record Ends (s : Setup) (states : ℕ → DeviceState) (first : Machine) (places : List ℕ) (programs : List (List Step)) (events : List Event) : Type 0 where
   pub state : Machine
-  pub run : RunsTo one_node first events state
-  pub stands : Stands states state
-  pub item : IsRunOf (0 ∷ []) (program ∷ []) AtEnd events
+  pub run : RunsTo s first events state
+  pub rest : HasRest s states state
+  pub item : IsRunOf places programs AtEnd events
 
 -- the run is over
 abbrev pub HasStopped : {D : Type 0} → Site D → Type 0
@@ -65,50 +62,74 @@ pub record TellsOne (old new : List Event) : Type 0 where
   pub few : length told ≤ 1
   pub is : new ≡ old ++ told
 
--- the actor is one that a site of one rank has
-abbrev pub IsActor : Actor → Type 0
-IsActor (Rank rank) = rank < 1
-IsActor _ = Unit {0}
+-- the run is the same one
+pub record IsSameRun {D : Type 0} (old new : Site D) : Type 0 where
+  pub shape : new.core.shape ≡ old.core.shape
+  pub config : new.core.config ≡ old.core.config
+  pub places : new.core.places ≡ old.core.places
+  pub programs : new.programs ≡ old.programs
+  pub ranks : length new.core.ranks ≡ length old.core.ranks
 
--- ## What one call does to a device
+-- the actor is one of a site of so many ranks
+abbrev pub IsActor : ℕ → Actor → Type 0
+IsActor ranks (Rank rank) = rank < ranks
+IsActor ranks _ = Unit {0}
 
--- nothing
-abbrev pub Same : DeviceState → DeviceState → Type 0
-Same old new = new ≡ old
+-- ## What a move may do
 
--- bytes were written at a place of a file
-pub record Written (name : List ℕ) (at : ℕ) (bytes : List ℕ) (old new : DeviceState) : Type 0 where
-  pub now : old.tells ≡ true → (new.file name).now ≡ Some (written (bytes_of (old.file name).now) at bytes)
-  pub only : ChangesOnly name old new
+-- every rank has called, rank 0 this, and nothing speaks against it
+pub record IsClearRound (c : Core) (call : Step) : Type 0 where
+  pub complete : is_complete c.ranks ≡ true
+  pub first : first_call c.ranks ≡ Some call
+  pub clear : verdict_of c call ≡ None
 
--- ## Why a site refuses
+-- the round may be decided so: where the site stands for a state, that is a step of the machine, and a dataset stays open in the phase Output alone
+abbrev pub MayDecide : {D : Type 0} → (D → DeviceState) → Site D → Kind → Reply → Phase → Option DataId → Type 0
+MayDecide state site kind answer phase offer =
+    (first : Machine) → Follows state first site
+    → ((m : Manifest) → site.core.opened ≡ Some m → phase ≡ Output)
+    × ((bytes : Contents) → StepsTo (setup_of site.core) (running bytes site.core) (event.Decided kind answer) (running bytes (served site.core phase offer (map (owed answer) site.core.ranks))))
 
--- the device's count of faults rose to this
-pub record IsFault (old new : ℕ → DeviceState) (node count : ℕ) : Type 0 where
-  pub now : count ≡ (new node).faults
-  pub rose : Rose (old node).faults count
+-- every rank has called, rank 0 this, and the round is refused so
+pub record IsRefusedRound (c : Core) (call : Step) (refusal : Refusal) : Type 0 where
+  pub complete : is_complete c.ranks ≡ true
+  pub first : first_call c.ranks ≡ Some call
+  pub verdict : verdict_of c call ≡ Some refusal
+  pub no_fault : is_fault (replies.Refused refusal) ≡ false
 
--- no device's count of faults changed
-abbrev pub IsCalm : (ℕ → DeviceState) → (ℕ → DeviceState) → Type 0
-IsCalm old new = (place : ℕ) → (new place).faults ≡ (old place).faults
+-- a rank that may take its next step
+pub record IsFreeSeat (c : Core) (rank : ℕ) : Type 0 where
+  pub seat : Seat
+  pub is : slice_get c.ranks rank ≡ Some seat
+  pub free : is_free seat.doing ≡ true
 
--- a file that a site of this form writes
-abbrev pub IsOwnFile : ℕ → List ℕ → Type 0
-IsOwnFile node name = ((node ≡ 32) × (name ≡ run_file)) ⊎ ((node ≡ 0) × (name ≡ member_file)) ⊎ ((node ≡ 0) × (name ≡ part_file))
+-- the step is what a free rank calls next
+pub record IsNextCall (programs : List (List Step)) (c : Core) (rank : ℕ) (call : Step) : Type 0 where
+  pub seat : Seat
+  pub is : slice_get c.ranks rank ≡ Some seat
+  pub free : is_free seat.doing ≡ true
+  pub small : seat.number + 1 < 2 ^ 32
+  pub collective : is_local call ≡ false
+  pub again : seat.ended ≡ true → is_end call ≡ true
+  pub of_program : is_step_of programs rank (next_number seat) call
 
--- a write to one of its files would have passed the device's capacity
-pub record IsFull (old new : ℕ → DeviceState) (node used capacity : ℕ) : Type 0 where
-  pub used_is : used ≡ used_of (old node)
-  pub capacity_is : capacity ≡ (old node).capacity
-  pub name : List ℕ
-  pub at : ℕ
-  pub count : ℕ
-  pub own : IsOwnFile node name
-  pub passes : Passes ((old node).file name) used capacity at count
-  pub calm : IsCalm old new
+-- the step of its own is what a free rank takes next
+pub record IsNextLocal (programs : List (List Step)) (c : Core) (rank : ℕ) (call : Step) : Type 0 where
+  pub seat : Seat
+  pub is : slice_get c.ranks rank ≡ Some seat
+  pub free : is_free seat.doing ≡ true
+  pub goes : seat.ended ≡ false
+  pub small : seat.number + 1 < 2 ^ 32
+  pub local : is_local call ≡ true
+  pub of_program : is_step_of programs rank (seat.number + 1) call
 
--- a fault only where that count rose, a full device only where a write passes, and no count rose otherwise
-abbrev pub SiteCause : {T : Type 0} → (ℕ → DeviceState) → (ℕ → DeviceState) → Result T SiteError → Type 0
-SiteCause old new (Err (Fault node count)) = IsFault old new node count
-SiteCause old new (Err (Full node used capacity)) = IsFull old new node used capacity
-SiteCause old new _ = IsCalm old new
+-- a rank's step may be told so, with no file changed: where the site stands for a state, that is a step of the machine
+abbrev pub MayTell : {D : Type 0} → (D → DeviceState) → Site D → ℕ → Step → Reply → Type 0
+MayTell state site rank call answer =
+    TellsAll state → (first : Machine) → Follows state first site → (seat : Seat) → slice_get site.core.ranks rank ≡ Some seat
+    → StepsTo (setup_of site.core) (running (contents_of (cells_of (states_of state site.bay)) site.core) site.core) (event.Local rank (seat.number + 1) call answer)
+    (running (contents_of (cells_of (states_of state site.bay)) site.core) (served site.core site.core.phase site.core.offer (slice_set site.core.ranks rank (stepped seat))))
+
+-- a dataset is being saved, or is about to be, and this comes next on this node
+abbrev pub IsSavingAt : {D : Type 0} → (D → DeviceState) → Site D → Work → ℕ → Type 0
+IsSavingAt state site w node = (first : Machine) → Follows state first site → (m : Manifest) × IsSaving first site.core site.programs (states_of state site.bay) site.history.events w node m

@@ -1,164 +1,252 @@
 -- What devices stand for between two runs, and what holds between two moves of a run.
-use Rattle.std.specs.Prelude.{◌≡◌, ◌<◌, ◌+◌, ◌^◌, ℕ, IsTrue, not, Bool, true, false, List, [], ◌∷◌, Option, None, Some, length}
-use Rattle.std.specs.List.{list_all}
+use Rattle.std.specs.Prelude.{◌≡◌, ◌≢◌, ◌⊎◌, ◌<◌, ◌≤◌, ◌+◌, ◌*◌, ◌^◌, nat_lt, nat_le, not, ◌==◌, ℕ, Bool, true, false, IsTrue, List, [], map, replicate, Option, None, Some, slice_get, codes}
+use Rattle.std.specs.List.{list_all, list_any}
 use Rattle.scr_base.specs.Halt.{no_halt}
-use Rattle.scr_base.specs.Words.{is_name}
-use Rattle.scr_base.specs.declared.answers.Phase.{Phase}
+use Rattle.scr_base.specs.Sets.{numbers_below}
 use Rattle.scr_base.specs.declared.answers.Phase.TheVariants as phase
 use Rattle.scr_base.specs.declared.content.Step.{Step}
 use Rattle.scr_base.specs.declared.content.Step.TheVariants as step
-use Rattle.ckpt_model.specs.Machine.{Machine, Kept, Stage as Place}
-use Rattle.ckpt_model.specs.Machine.Mark.{Settled}
+use Rattle.node_device.specs.File.{IsAtRest}
+use Rattle.node_device.specs.DeviceState.{DeviceState}
+use Rattle.gated_record.specs.PairStages.{IsPairStage}
+use Rattle.gated_record.specs.declared.pair.PairValue.{PairValue}
+use Rattle.member_store.specs.Names.{record_name, IsPlace}
+use Rattle.site_core.specs.Causes.{IsNumberFile}
+use Rattle.ckpt_model.specs.Machine.{Machine, Setup, Stage as Place}
 use Rattle.ckpt_model.specs.Legal.{IsRunOf, AreOfPrograms, begins_run, is_stop}
 use Rattle.ckpt_model.specs.Legal.Place.{AtEnd}
 use Rattle.ckpt_model.specs.Runs.{RunsTo}
 use Rattle.ckpt_model.specs.declared.event.Event.{Event}
+use Rattle.round_core.specs.Seats.{fresh_seat, is_complete, first_call, seat_is_valid}
+use Rattle.site_core.specs.declared.cache.Cached.{Cached}
+use Rattle.site_core.specs.declared.cache.Manifest.{Manifest}
+use Rattle.site_core.specs.declared.cache.Mark.TheVariants as mark
+use Rattle.site_core.specs.declared.core_state.Core.{Core}
 use Rattle.site_core.specs.declared.core_state.Stage.{Stage}
 use Rattle.site_core.specs.declared.core_state.Stage.TheVariants as stage
-use Rattle.site_core.specs.declared.core_state.Cached.{Cached}
-use Rattle.site_core.specs.declared.core_state.Cached.TheVariants as cached
-use Rattle.site_core.specs.declared.core_state.Doing.TheVariants as doing
-use Rattle.site_core.specs.declared.core_state.Core.{Core}
-use Rattle.site_core.specs.declared.member.Member.{Member}
-use Rattle.site_core.specs.Form.{one_node}
-use Rattle.site_core.specs.Records.{Files, IsMember, run_of, shut, standing}
-use Rattle.site_core.specs.Shown.{kept_with, begun, running}
+use Rattle.site_core.specs.declared.core_state.Work.{Work}
+use Rattle.site_core.specs.declared.core_state.Work.TheVariants as work
+use Rattle.site_core.specs.Shown.{running, stopped, begun, setup_of, kept_of, mends}
+use Rattle.site_core.specs.Choosing.{verdict_of, AscendFrom, seals, is_at_rest, is_being_sealed}
+use Rattle.site_core.specs.Stored.{Cells, cells_of, contents_of, contents_in, file_name, FilesStand, RecordsStand, RecordIs, NoOtherRecords, NoFutureFiles, IsOfSite, IsWell, FilesHold, stored_run, run_number}
 
--- the dataset's record is open, and its file has these bytes
-pub record IsHeld (files : Files) (r : Member) (bytes : List ℕ) : Type 0 where
-  pub is_member : IsMember r
-  pub member : files.member ≡ Some (standing r)
-  pub part : files.part ≡ Some bytes
-  pub len : length bytes ≡ r.len
+-- ## Between two runs
 
--- nothing is in cache and neither file is there, or the one dataset is
-abbrev pub KeptRead : Files → List Kept → Type 0
-KeptRead files [] = (files.member ≡ None) × (files.part ≡ None)
-KeptRead files (k ∷ []) = (r : Member) × (bytes : List ℕ) × IsHeld files r bytes × (k ≡ kept_with Settled false r bytes)
-KeptRead files (k ∷ l ∷ kept) = ⊥
+-- the dataset of this manifest is among these
+abbrev pub IsOneOf : List Manifest → Manifest → Type 0
+IsOneOf sets m = (i : ℕ) × (slice_get sets i ≡ Some m)
 
--- between two runs the files stand for this state
-pub record StandsFor (files : Files) (m : Machine) : Type 0 where
+-- a dataset in cache, as a run leaves it
+abbrev pub settled_set : Manifest → Cached
+settled_set m = record { manifest = m; mark = mark.Settled }
+
+-- the files of a site between two runs: these datasets stand, whole and sealed, and no other record is there
+pub record StoreHolds (s : Setup) (cells : Cells) (run : ℕ) (sets : List Manifest) : Type 0 where
+  pub stored : stored_run cells ≡ run
+  pub rise : AscendFrom 1 (map settled_set sets)
+  pub sets_are : (m : Manifest) → IsOneOf sets m → IsOfSite s.shape run m
+  pub files : (m : Manifest) → IsOneOf sets m → FilesStand cells (numbers_below s.shape.nodes) s.shape.ranks m
+  pub records : (m : Manifest) → IsOneOf sets m → RecordsStand cells (numbers_below s.shape.nodes) m
+  pub others : NoOtherRecords (IsOneOf sets) cells (numbers_below s.shape.nodes)
+  pub future : NoFutureFiles cells (run + 1) 0
+
+-- nothing is pending on the nodes and the prefix
+abbrev pub IsQuiet : (ℕ → DeviceState) → Type 0
+IsQuiet states = (p : ℕ) (q : List ℕ) → p ≤ 32 → IsAtRest ((states p).file q)
+
+-- between two runs the devices stand for this state
+pub record StandsFor (s : Setup) (states : ℕ → DeviceState) (m : Machine) : Type 0 where
+  pub sets : List Manifest
+  pub quiet : IsQuiet states
+  pub store : StoreHolds s (cells_of states) m.run sets
   pub between : m.stage ≡ Place.Between
-  pub stored : run_of files.stored ≡ m.run
-  pub kept : KeptRead files m.kept
+  pub kept : m.kept ≡ map (kept_of s (contents_in (cells_of states) (numbers_below s.shape.nodes) s.shape.ranks) (numbers_below s.shape.nodes)) (map settled_set sets)
   pub index : m.index ≡ []
   pub halt : m.halt ≡ no_halt
-  pub mark : m.mark ≡ None
+  pub mark_is : m.mark ≡ None
+
+-- ## Within a run
 
 -- no call was made in this run
 pub record IsFresh (c : Core) : Type 0 where
-  pub phase : c.phase ≡ phase.Idle
-  pub number : c.number ≡ 0
-  pub doing : c.doing ≡ doing.Free
-  pub cached : c.cached ≡ cached.Nothing
-  pub offered : c.offered ≡ false
+  pub places : c.places ≡ numbers_below c.shape.nodes
+  pub phase_is : c.phase ≡ phase.Idle
+  pub offer : c.offer ≡ None
+  pub opened : c.opened ≡ None
+  pub ranks : c.ranks ≡ replicate (c.shape.nodes * c.shape.ranks) fresh_seat
   pub settled : c.settled ≡ 0
 
--- the number isn't stored
-pub record IsStoring (c : Core) (files : Files) (m : Machine) : Type 0 where
-  pub stands : StandsFor files m
+-- nothing was done
+pub record IsBegun (c : Core) (states : ℕ → DeviceState) (m : Machine) : Type 0 where
   pub fresh : IsFresh c
+  pub stands : StandsFor (setup_of c) states m
 
--- the number is written, and not an event yet
-pub record IsSyncing (c : Core) (files : Files) (m : Machine) : Type 0 where
-  pub stands : StandsFor files (record m { run = c.run })
+-- the number of the run is on its way; all else is as it was
+pub record IsStoring (c : Core) (states : ℕ → DeviceState) (m : Machine) : Type 0 where
+  pub fresh : IsFresh c
+  pub sets : List Manifest
+  pub old : Option PairValue
+  pub old_is : run_number old ≡ m.run
+  pub want : c.storing.want ≡ record { version = c.run; body = [] }
+  pub way : IsPairStage (codes "run") old c.storing.want (states 32) c.storing.changes
+  pub quiet : (p : ℕ) (q : List ℕ) → p ≤ 32 → (p ≡ 32 → IsNumberFile q → ⊥) → IsAtRest ((states p).file q)
+  pub rise : AscendFrom 1 (map settled_set sets)
+  pub sets_are : (x : Manifest) → IsOneOf sets x → IsOfSite c.shape m.run x
+  pub files : (x : Manifest) → IsOneOf sets x → FilesStand (cells_of states) c.places c.shape.ranks x
+  pub records : (x : Manifest) → IsOneOf sets x → RecordsStand (cells_of states) c.places x
+  pub others : NoOtherRecords (IsOneOf sets) (cells_of states) c.places
+  pub future : NoFutureFiles (cells_of states) (m.run + 1) 0
+  pub between : m.stage ≡ Place.Between
+  pub kept : m.kept ≡ map (kept_of (setup_of c) (contents_of (cells_of states) c) c.places) (map settled_set sets)
+  pub index : m.index ≡ []
+  pub halt : m.halt ≡ no_halt
+  pub mark_is : m.mark ≡ None
   pub run : c.run ≡ m.run + 1
   pub fits : c.run < 2 ^ 32
-  pub fresh : IsFresh c
 
--- the number is stable
-pub record IsLooking (c : Core) (files : Files) (m : Machine) : Type 0 where
-  pub kept : List Kept
+-- the number is stored
+pub record IsLooking (c : Core) (states : ℕ → DeviceState) (m : Machine) : Type 0 where
+  pub fresh : IsFresh c
+  pub sets : List Manifest
   pub next : ℕ
-  pub is : m ≡ begun c.run next kept
-  pub stored : run_of files.stored ≡ c.run
-  pub read : KeptRead files kept
-  pub fresh : IsFresh c
+  pub quiet : IsQuiet states
+  pub store : StoreHolds (setup_of c) (cells_of states) c.run sets
+  pub runs : (x : Manifest) → IsOneOf sets x → x.desc.which.run < c.run
+  pub future : NoFutureFiles (cells_of states) c.run 0
+  pub is : m ≡ begun c next (map (kept_of (setup_of c) (contents_of (cells_of states) c) c.places) (map settled_set sets))
 
--- the member record of an open dataset
-abbrev pub record_at : Stage → Member → Option (List ℕ)
-record_at stage.Recorded r = Some (shut r)
-record_at stage.Synced r = Some (shut r)
-record_at _ r = None
+-- the round that saves the open dataset
+pub record IsSaveRound (c : Core) : Type 0 where
+  pub complete : is_complete c.ranks ≡ true
+  pub valid : Bool
+  pub first : first_call c.ranks ≡ Some (step.Complete valid)
+  pub clear : verdict_of c (step.Complete valid) ≡ None
+  pub all : list_all seat_is_valid c.ranks ≡ true
 
--- what is saved has its record, with the gate still closed, and its file
-pub record IsWritten (s : Stage) (files : Files) (r : Member) (bytes : List ℕ) : Type 0 where
-  pub is_member : IsMember r
-  pub member : files.member ≡ record_at s r
-  pub part : files.part ≡ Some bytes
-  pub len : length bytes ≡ r.len
+-- how far a node's record has come
+abbrev pub is_written_at : Work → ℕ → ℕ → Bool
+is_written_at work.Record n i = nat_lt i n
+is_written_at work.RecordSync n i = nat_le i n
+is_written_at _ n i = true
 
--- neither file is there
-pub record HasNoFile (files : Files) : Type 0 where
-  pub member : files.member ≡ None
-  pub part : files.part ≡ None
+abbrev pub is_whole_at : Work → ℕ → ℕ → Bool
+is_whole_at work.Record n i = false
+is_whole_at work.RecordSync n i = false
+is_whole_at work.Whole n i = nat_lt i n
+is_whole_at work.WholeSync n i = nat_le i n
+is_whole_at _ n i = true
 
-abbrev pub FilesAre : Stage → Cached → Files → List ℕ → Type 0
-FilesAre s cached.Nothing files bytes = HasNoFile files
-FilesAre s (cached.Named name) files bytes = HasNoFile files × IsTrue (is_name name)
-FilesAre s (cached.Routed r) files bytes = IsWritten s files r bytes
-FilesAre s (cached.Kept r) files bytes = IsHeld files r bytes
+abbrev pub is_sealed_at : Work → ℕ → ℕ → Bool
+is_sealed_at work.Sealed n i = nat_lt i n
+is_sealed_at work.SealedSync n i = nat_le i n
+is_sealed_at _ n i = false
 
-abbrev pub IsRouted : Cached → Type 0
-IsRouted c = (r : Member) × (c ≡ cached.Routed r)
+-- what is pending on a node: while records are written the files and the record, then the gate that was turned
+abbrev pub is_pending_at : Work → ℕ → ℕ → Bool
+is_pending_at work.Record n i = nat_le n i
+is_pending_at work.RecordSync n i = nat_le n i
+is_pending_at work.Whole n i = false
+is_pending_at work.WholeSync n i = i == n
+is_pending_at work.Sealed n i = false
+is_pending_at work.SealedSync n i = i == n
 
-abbrev pub IsCached : Cached → Type 0
-IsCached c = (r : Member) × (c ≡ cached.Kept r)
+-- a node's record, or none yet
+abbrev pub RecordAt : Bool → Option (List ℕ) → Manifest → ℕ → Bool → Bool → Type 0
+RecordAt true o m node whole sealed = RecordIs o m node whole sealed
+RecordAt false o m node whole sealed = o ≡ None
 
--- the rank waits for its dataset
-pub record IsSaved (c : Core) : Type 0 where
-  pub phase : c.phase ≡ phase.Output
-  pub doing : c.doing ≡ doing.Waits (step.Complete true)
+-- the records of the dataset that is being saved
+pub record SavesAt (w : Work) (n : ℕ) (c : Core) (m : Manifest) (states : ℕ → DeviceState) : Type 0 where
+  pub round : IsSaveRound c
+  pub below : n < c.shape.nodes
+  pub apart : (i : ℕ) (x : Cached) → slice_get c.kept i ≡ Some x → is_being_sealed x.mark ≡ false → x.manifest.desc.which ≢ m.desc.which
+  pub one : (i : ℕ) (x : Cached) → slice_get c.kept i ≡ Some x → is_being_sealed x.mark ≡ true → x.manifest ≡ m
+  pub records : (node p : ℕ) → slice_get c.places node ≡ Some p → RecordAt (is_written_at w n node) (((states p).file (record_name m.desc.which node)).now) m node (is_whole_at w n node) (is_sealed_at w n node)
+  pub clean : (node p : ℕ) → slice_get c.places node ≡ Some p → is_written_at w n node ≡ false → IsAtRest ((states p).file (record_name m.desc.which node))
+  pub quiet : (node p : ℕ) (q : List ℕ) → slice_get c.places node ≡ Some p → is_pending_at w n node ≡ false → IsAtRest ((states p).file q)
 
--- what the encoder, the recoverer and a restart count on
-abbrev pub WorkIs : Stage → Core → Type 0
-WorkIs stage.Mending c = IsCached c.cached × (c.phase ≡ phase.Idle)
-WorkIs stage.Recorded c = IsSaved c × IsRouted c.cached
-WorkIs stage.Synced c = IsSaved c × IsRouted c.cached
-WorkIs stage.Sealing c = IsSaved c × IsCached c.cached
-WorkIs stage.Sealed c = IsSaved c × IsCached c.cached
-WorkIs _ c = Unit {0}
+-- the dataset that is being saved: before its sealing it is the open one, and then the last in cache
+abbrev pub IsSaved : Work → ℕ → Core → Manifest → Type 0
+IsSaved w n c m = (c.opened ≡ Some m) ⊎ ((c.opened ≡ None) × ((x : Cached) × (i : ℕ) × (slice_get c.kept i ≡ Some x) × (x.manifest ≡ m) × (x.mark ≡ mark.Sealing)))
 
--- a dataset that is offered, or being read, is in cache
-abbrev pub OfferIs : Phase → Cached → Bool → Type 0
-OfferIs phase.Offered x offered = IsCached x × (offered ≡ true)
-OfferIs phase.Restart x offered = IsCached x × (offered ≡ true)
-OfferIs _ x offered = Unit {0}
+-- a file of the dataset
+abbrev pub IsFileOf : Core → Manifest → List ℕ → Type 0
+IsFileOf c m q = (rank : ℕ) × (j : ℕ) × (rank < 2 ^ 8) × (j < 2 ^ 8) × (q ≡ file_name m.desc.which c.shape.ranks rank j)
+
+-- on a node, the file belongs to what isn't stable yet: a file of the open dataset, or of the one that is being saved, or its record
+abbrev pub IsPending : Stage → Core → List ℕ → Type 0
+IsPending (stage.Saving w n) c q = (m : Manifest) × IsSaved w n c m × (IsFileOf c m q ⊎ ((node : ℕ) × (q ≡ record_name m.desc.which node)))
+IsPending _ c q = (m : Manifest) × (c.opened ≡ Some m) × IsFileOf c m q
+
+-- what the encoder and the recoverer count on
+abbrev pub WorkIs : Stage → Core → (ℕ → DeviceState) → Type 0
+WorkIs stage.Mending c states = (c.opened ≡ None) × (list_any seals c.kept ≡ false)
+WorkIs stage.Serving c states = (list_any mends c.kept ≡ false) × (list_any seals c.kept ≡ false)
+WorkIs (stage.Saving w n) c states = (m : Manifest) × IsSaved w n c m × SavesAt w n c m states × (list_any mends c.kept ≡ false)
+WorkIs _ c states = Unit {0}
+
+-- of the open dataset no record is there while its ranks write
+abbrev pub NoRecordYet : Stage → Core → Cells → Type 0
+NoRecordYet (stage.Saving w n) c cells = Unit {0}
+NoRecordYet _ c cells = (m : Manifest) → c.opened ≡ Some m → (p node : ℕ) → p < 32 → IsPlace m.desc.which node → cells p (record_name m.desc.which node) ≡ None
 
 -- recovery has looked
-pub record IsUp (c : Core) (files : Files) (m : Machine) : Type 0 where
-  pub bytes : List ℕ
-  pub is : m ≡ running c bytes
-  pub stored : run_of files.stored ≡ c.run
-  pub held : FilesAre c.stage c.cached files bytes
-  pub work : WorkIs c.stage c
-  pub offer : OfferIs c.phase c.cached c.offered
+pub record IsUp (c : Core) (states : ℕ → DeviceState) (m : Machine) : Type 0 where
+  pub is : m ≡ running (contents_of (cells_of states) c) c
+  pub well : IsWell c
+  pub files : FilesHold c (cells_of states)
+  pub quiet : (p : ℕ) (q : List ℕ) → p ≤ 32 → (p < c.shape.nodes → IsPending c.stage c q → ⊥) → IsAtRest ((states p).file q)
+  pub unrecorded : NoRecordYet c.stage c (cells_of states)
+  pub working : WorkIs c.stage c states
+
+-- the run is over: nothing but the files of an open dataset may be pending, and each dataset in cache is settled
+pub record IsOver (c : Core) (states : ℕ → DeviceState) (m : Machine) : Type 0 where
+  pub is : m ≡ stopped (contents_of (cells_of states) c) c
+  pub well : IsWell c
+  pub files : FilesHold c (cells_of states)
+  pub quiet : (p : ℕ) (q : List ℕ) → p ≤ 32 → (p < c.shape.nodes → IsPending stage.Serving c q → ⊥) → IsAtRest ((states p).file q)
+  pub unrecorded : NoRecordYet stage.Serving c (cells_of states)
+  pub settled : list_all (λ (x : Cached). is_at_rest x.mark) c.kept ≡ true
+
+-- the run is over: its memory and the devices stand for the state, or the run never began and the devices alone do
+abbrev pub HasRest : Setup → (ℕ → DeviceState) → Machine → Type 0
+HasRest s states m = StandsFor s states m ⊎ ((c : Core) × (setup_of c ≡ s) × IsOver c states m)
 
 -- what holds at a stage
-abbrev pub HoldsAt : Stage → Core → Files → Machine → Type 0
-HoldsAt stage.Storing c files m = IsStoring c files m
-HoldsAt stage.Syncing c files m = IsSyncing c files m
-HoldsAt stage.Looking c files m = IsLooking c files m
-HoldsAt stage.Stopped c files m = StandsFor files m
-HoldsAt _ c files m = IsUp c files m
+abbrev pub HoldsAt : Stage → Core → (ℕ → DeviceState) → Machine → Type 0
+HoldsAt stage.Begun c states m = IsBegun c states m
+HoldsAt stage.Storing c states m = IsStoring c states m
+HoldsAt stage.Looking c states m = IsLooking c states m
+HoldsAt stage.Stopped c states m = HasRest (setup_of c) states m
+HoldsAt _ c states m = IsUp c states m
 
 -- the events so far of a run that has begun and isn't over
-pub record IsSoFar (program : List Step) (events : List Event) : Type 0 where
-  pub begin : IsTrue (begins_run (0 ∷ []) events)
-  pub steps : AreOfPrograms (program ∷ []) events
+pub record IsSoFar (places : List ℕ) (programs : List (List Step)) (events : List Event) : Type 0 where
+  pub begin : IsTrue (begins_run places events)
+  pub steps : AreOfPrograms programs events
   pub goes_on : IsTrue (list_all (λ e. not (is_stop e)) events)
 
 -- the events are those of the run, as far as it has come
-abbrev pub ToldAt : Stage → List Step → List Event → Type 0
-ToldAt stage.Storing program events = events ≡ []
-ToldAt stage.Syncing program events = events ≡ []
-ToldAt stage.Stopped program events = IsRunOf (0 ∷ []) (program ∷ []) AtEnd events
-ToldAt s program events = IsSoFar program events
+abbrev pub ToldAt : Stage → List ℕ → List (List Step) → List Event → Type 0
+ToldAt stage.Begun places programs events = events ≡ []
+ToldAt stage.Storing places programs events = events ≡ []
+ToldAt stage.Stopped places programs events = IsRunOf places programs AtEnd events
+ToldAt _ places programs events = IsSoFar places programs events
 
 -- the history leads from a state to one for which the run's memory and files stand
-pub record Leads (first : Machine) (c : Core) (program : List Step) (files : Files) (events : List Event) : Type 0 where
+pub record Leads (first : Machine) (c : Core) (programs : List (List Step)) (states : ℕ → DeviceState) (events : List Event) : Type 0 where
   pub state : Machine
-  pub run : RunsTo one_node first events state
-  pub holds : HoldsAt c.stage c files state
-  pub told : ToldAt c.stage program events
+  pub run : RunsTo (setup_of c) first events state
+  pub holds : HoldsAt c.stage c states state
+  pub told : ToldAt c.stage c.places programs events
+
+-- what is known of a run while a dataset is being saved
+pub record IsSaving (first : Machine) (c : Core) (programs : List (List Step)) (states : ℕ → DeviceState) (events : List Event) (w : Work) (n : ℕ) (m : Manifest) : Type 0 where
+  pub run : RunsTo (setup_of c) first events (running (contents_of (cells_of states) c) c)
+  pub so_far : IsSoFar c.places programs events
+  pub well : IsWell c
+  pub files : FilesHold c (cells_of states)
+  pub quiet : (p : ℕ) (q : List ℕ) → p ≤ 32 → (p < c.shape.nodes → IsPending (stage.Saving w n) c q → ⊥) → IsAtRest ((states p).file q)
+  pub saved : IsSaved w n c m
+  pub saves : SavesAt w n c m states
+  pub mended : list_any mends c.kept ≡ false

@@ -1,6 +1,10 @@
-pub mod Form
-pub mod Records
 pub mod Shown
+pub mod Choosing
+pub mod Numbers
+pub mod Looks
+pub mod Cores
+pub mod Stored
 pub mod Holds
 pub mod Calls
+pub mod Causes
 pub mod Follows

@@ -1,102 +1,134 @@
--- The machine's state that a run of this form stands for.
-use Rattle.std.specs.Prelude.{ℕ, Bool, true, false, List, [], ◌∷◌, Option, None, Some, if◌then◌else◌}
+-- The machine's state that a run of a site stands for, once recovery has looked.
+use Rattle.std.specs.Prelude.{ℕ, ◌+◌, ◌*◌, Bool, true, false, List, [], ◌∷◌, map, fold, max, replicate, Option, None, option_map, if◌then◌else◌}
+use Rattle.scr_base.specs.Same.{same_id}
+use Rattle.scr_base.specs.declared.answers.Phase.{Phase}
+use Rattle.scr_base.specs.declared.answers.Phase.TheVariants as phase
+use Rattle.ckpt_model.specs.declared.event.FoundRow.{FoundRow}
 use Rattle.scr_base.specs.Halt.{no_halt}
 use Rattle.scr_base.specs.declared.shape.DataId.{DataId}
-use Rattle.scr_base.specs.declared.shape.Flags.TheVariants.{Ckpt}
-use Rattle.scr_base.specs.declared.answers.Phase.TheVariants as phase
-use Rattle.scr_base.specs.Calls.{is_end}
+use Rattle.filemap.specs.declared.rows.FileRow.{FileRow}
+use Rattle.dataset_desc.specs.declared.desc.Desc.{Desc}
 use Rattle.ckpt_model.specs.Dataset.{Dataset, File}
-use Rattle.ckpt_model.specs.Machine.{Machine, Kept, Mark, MemberState, RankState, Stage as Place, Doing as Does}
-use Rattle.ckpt_model.specs.Machine.Mark.{Mending, Sealing, Settled}
-use Rattle.ckpt_model.specs.declared.event.FoundRow.{FoundRow}
-use Rattle.site_core.specs.declared.core_state.Stage.{Stage}
-use Rattle.site_core.specs.declared.core_state.Stage.TheVariants as stage
-use Rattle.site_core.specs.declared.core_state.Cached.{Cached}
-use Rattle.site_core.specs.declared.core_state.Cached.TheVariants as cached
-use Rattle.site_core.specs.declared.core_state.Doing.{Doing}
-use Rattle.site_core.specs.declared.core_state.Doing.TheVariants as doing
+use Rattle.ckpt_model.specs.Machine.{Machine, Setup, Kept, RankState, Stage as Place, Doing as Does, Mark as Marked}
+use Rattle.ckpt_model.specs.Steps.{members_at, fresh_rank}
+use Rattle.round_core.specs.declared.seat.Seat.{Seat}
+use Rattle.round_core.specs.declared.seat.Doing.{Doing}
+use Rattle.round_core.specs.declared.seat.Doing.TheVariants as doing
+use Rattle.site_core.specs.declared.cache.Cached.{Cached}
+use Rattle.site_core.specs.declared.cache.Manifest.{Manifest}
+use Rattle.site_core.specs.declared.cache.Mark.{Mark}
+use Rattle.site_core.specs.declared.cache.Mark.TheVariants as mark
 use Rattle.site_core.specs.declared.core_state.Core.{Core}
-use Rattle.site_core.specs.declared.member.Member.{Member}
-use Rattle.site_core.specs.Form.{one_node}
-use Rattle.site_core.specs.Records.{one}
 
--- the dataset with these files of its one rank
-abbrev pub dataset_of : List ℕ → List File → Dataset
-dataset_of name files = record {
-  which = one;
-  name = name;
-  flags = Ckpt;
-  shape = one_node.shape;
-  scheme = one_node.config.scheme;
-  size = one_node.config.size;
-  files = files ∷ [];
+-- the bytes of each file, by its dataset, rank and number
+abbrev pub Contents : Type 0
+Contents = DataId → ℕ → ℕ → List ℕ
+
+-- a rank's files, from a number on
+abbrev pub rank_files : (ℕ → List ℕ) → ℕ → List FileRow → List File
+rank_files bytes j [] = []
+rank_files bytes j (row ∷ rows) = record { name = row.name; bytes = bytes j } ∷ rank_files bytes (j + 1) rows
+
+-- the files of all ranks, from a rank on
+abbrev pub all_files : (ℕ → ℕ → List ℕ) → ℕ → List (List FileRow) → List (List File)
+all_files bytes rank [] = []
+all_files bytes rank (rows ∷ more) = rank_files (bytes rank) 0 rows ∷ all_files bytes (rank + 1) more
+
+abbrev pub setup_of : Core → Setup
+setup_of c = record { shape = c.shape; config = c.config }
+
+-- the dataset of this description, with these files
+abbrev pub dataset_of : Setup → Contents → Desc → List (List FileRow) → Dataset
+dataset_of s bytes desc files = record {
+  which = desc.which;
+  name = desc.name;
+  flags = desc.flags;
+  shape = s.shape;
+  scheme = desc.scheme;
+  size = desc.size;
+  files = all_files (bytes desc.which) 0 files;
 }
 
--- the dataset of a member whose file has these bytes
-abbrev pub dataset_with : Member → List ℕ → Dataset
-dataset_with r bytes = dataset_of r.name (record { name = r.file; bytes = bytes } ∷ [])
+abbrev pub set_of : Setup → Contents → Manifest → Dataset
+set_of s bytes m = dataset_of s bytes m.desc m.files
 
--- its one member stands on node 0
-abbrev pub at_node : MemberState
-at_node = record { homes = 0 ∷ []; unsure = false }
-
-abbrev pub kept_with : Mark → Bool → Member → List ℕ → Kept
-kept_with mark doubt r bytes = record { dataset = dataset_with r bytes; mark = mark; members = at_node ∷ []; doubt = doubt }
-
--- how far the dataset in cache has come
-abbrev pub mark_at : Stage → Mark
-mark_at stage.Mending = Mending
-mark_at stage.Sealing = Sealing
-mark_at _ = Settled
+abbrev pub marked : Mark → Marked
+marked mark.Mending = Marked.Mending
+marked mark.Sealing = Marked.Sealing
+marked mark.Settled = Marked.Settled
 
 -- a stop now may leave it or not
-abbrev pub doubt_at : Stage → Bool
-doubt_at stage.Sealing = true
-doubt_at _ = false
+abbrev pub is_doubtful : Mark → Bool
+is_doubtful mark.Mending = false
+is_doubtful mark.Sealing = true
+is_doubtful mark.Settled = false
 
-abbrev pub open_of : Cached → List ℕ → Option Dataset
-open_of cached.Nothing bytes = None
-open_of (cached.Named name) bytes = Some (dataset_of name [])
-open_of (cached.Routed r) bytes = Some (dataset_with r bytes)
-open_of (cached.Kept r) bytes = None
+abbrev pub is_to_mend : Mark → Bool
+is_to_mend mark.Mending = true
+is_to_mend mark.Sealing = false
+is_to_mend mark.Settled = false
 
-abbrev pub kept_of : Mark → Bool → Cached → List ℕ → List Kept
-kept_of mark doubt cached.Nothing bytes = []
-kept_of mark doubt (cached.Named name) bytes = []
-kept_of mark doubt (cached.Routed r) bytes = []
-kept_of mark doubt (cached.Kept r) bytes = kept_with mark doubt r bytes ∷ []
-
--- the id that the next Start would take
-abbrev pub next_of : Cached → ℕ
-next_of cached.Nothing = 1
-next_of (cached.Named name) = 2
-next_of (cached.Routed r) = 2
-next_of (cached.Kept r) = 2
+abbrev pub kept_of : Setup → Contents → List ℕ → Cached → Kept
+kept_of s bytes places set = record { dataset = set_of s bytes set.manifest; mark = marked set.mark; members = members_at places; doubt = is_doubtful set.mark }
 
 abbrev pub does : Doing → Does
 does doing.Free = Does.Free
 does (doing.Waits step) = Does.Waits step
 does (doing.Owed reply) = Does.Owed reply
 
--- the rank waits with its End
-abbrev pub has_ended : Doing → Bool
-has_ended doing.Free = false
-has_ended (doing.Waits step) = is_end step
-has_ended (doing.Owed reply) = false
+abbrev pub rank_of : Seat → RankState
+rank_of seat = record { number = seat.number; ended = seat.ended; doing = does seat.doing }
 
-abbrev pub rank_of : ℕ → Doing → RankState
-rank_of number d = record { number = number; ended = has_ended d; doing = does d }
+-- after what it found, where the files hold these bytes
+abbrev pub running : Contents → Core → Machine
+running bytes c = record {
+  stage = Place.Running;
+  run = c.run;
+  next = c.next;
+  places = c.places;
+  phase = c.phase;
+  offer = c.offer;
+  open_dataset = option_map (set_of (setup_of c) bytes) c.opened;
+  kept = map (kept_of (setup_of c) bytes c.places) c.kept;
+  index = [];
+  flushing = None;
+  fetching = None;
+  given_up = [];
+  needs = 0;
+  done = c.settled;
+  reading = None;
+  ranks = map rank_of c.ranks;
+  halt = no_halt;
+  mark = None;
+}
 
-abbrev pub offer_if : Bool → Option DataId
-offer_if offered = if offered then Some one else None
+-- the ranks, the phase and the offer are others
+abbrev pub served : Core → Phase → Option DataId → List Seat → Core
+served c p o ranks = record c { phase = p; offer = o; ranks = ranks }
+
+-- recovery has yet to look after it
+abbrev pub mends : Cached → Bool
+mends set = is_to_mend set.mark
+
+-- after the run's end
+abbrev pub stopped : Contents → Core → Machine
+stopped bytes c = record (running bytes c) { stage = Place.Between; open_dataset = None }
+
+-- the dataset, as far as this
+abbrev pub come_to : Mark → Cached → Cached
+come_to m set = record set { mark = m }
+
+-- the dataset of this identity is settled, the others as they are
+abbrev pub settled_if : DataId → Cached → Cached
+settled_if which set = if same_id set.manifest.desc.which which then come_to mark.Settled set else set
 
 -- between the run's event and what it finds
-abbrev pub begun : ℕ → ℕ → List Kept → Machine
-begun run next kept = record {
+abbrev pub begun : Core → ℕ → List Kept → Machine
+begun c next kept = record {
   stage = Place.Begun;
-  run = run;
+  run = c.run;
   next = next;
-  places = 0 ∷ [];
+  places = c.places;
   phase = phase.Idle;
   offer = None;
   open_dataset = None;
@@ -108,39 +140,15 @@ begun run next kept = record {
   needs = 0;
   done = 0;
   reading = None;
-  ranks = rank_of 0 doing.Free ∷ [];
+  ranks = replicate (c.shape.nodes * c.shape.ranks) fresh_rank;
   halt = no_halt;
   mark = None;
 }
 
--- after what it found, with the file's bytes so far
-abbrev pub running : Core → List ℕ → Machine
-running c bytes = record {
-  stage = Place.Running;
-  run = c.run;
-  next = next_of c.cached;
-  places = 0 ∷ [];
-  phase = c.phase;
-  offer = offer_if c.offered;
-  open_dataset = open_of c.cached bytes;
-  kept = kept_of (mark_at c.stage) (doubt_at c.stage) c.cached bytes;
-  index = [];
-  flushing = None;
-  fetching = None;
-  given_up = [];
-  needs = 0;
-  done = c.settled;
-  reading = None;
-  ranks = rank_of c.number c.doing ∷ [];
-  halt = no_halt;
-  mark = None;
-}
+-- the row of a dataset of which nothing is lost
+abbrev pub row_of : Cached → FoundRow
+row_of set = record { which = set.manifest.desc.which; lost = [] }
 
--- the row of the one dataset, of which nothing is lost
-abbrev pub row : FoundRow
-row = record { which = one; lost = [] }
-
--- what a look tells that saw this member, or none
-abbrev pub rows_for : Option Member → List FoundRow
-rows_for None = []
-rows_for (Some r) = row ∷ []
+-- the greatest number of a dataset
+abbrev pub greatest_id : List Cached → ℕ
+greatest_id sets = fold (λ n set. max n set.manifest.desc.which.id) 0 sets

@@ -1,96 +1,284 @@
-// The moves of the encoder: the record with its gate closed, a sync, the gate, a sync.
-ghost use Rattle.std.specs.Prelude.{◌≡◌, ◌+◌, ℕ, OnOk, OnErr, true};
+// The moves of the encoder: each node's record is written, and its gates are opened.
+ghost use Rattle.std.specs.Prelude.{◌≡◌, ◌+◌, ◌-◌, ◌*◌, ◌<◌, ◌≤◌, ◌^◌, true, false, None, Some, length, map, IfOk, OnOk, OnErr};
 ghost use Rattle.node_device.specs.Rack.{states_of};
-ghost use Rattle.site_core.specs.Follows.{Keeps, TellsOne, SiteCause};
+ghost use Rattle.site_core.specs.declared.core_state.Work.TheVariants as work;
+ghost use Rattle.site_core.specs.Causes.{SiteCause};
+ghost use Rattle.site_core.specs.Follows.{Keeps, TellsOne, IsSameRun, IsSavingAt};
 
-use crate::core_state::{Cached, Core, Doing, Stage};
+use crate::core_state::{Stage, Work};
 use crate::error::SiteError;
-use crate::files::{sync_device, write_file};
-use crate::member::Member;
-use crate::record::record_bytes;
-use crate::recover::FIRST;
+use crate::file_calls::{put_gate, put_member, sync_node};
 use crate::site::Site;
-use crate::turn::Turn;
+use crate::turn::{Turn, Why};
 use ckpt_model::Event;
+use member_store::MemberGate;
 use node_device::Device;
-use scr_base::{Copies, Phase, Step};
 
 impl<D: Device> Site<D> {
-    /// The member record is written with its gate closed.
-    pub(crate) fn write_record(&mut self) -> Result<Turn, SiteError>
+    /// The encoder's turn.
+    pub(crate) fn encode(&mut self) -> Result<Turn, SiteError>
+        ensures run { OnOk result (Keeps D.state self.old self.new) }
+        ensures told { OnOk result (TellsOne self.old.history.events self.new.history.events) }
+        ensures refused { OnErr result (self.new.history.events ≡ self.old.history.events) }
+        ensures fixed { IsSameRun self.old self.new }
+        ensures cause { SiteCause (states_of D.state self.old.bay) (states_of D.state self.new.bay) result }
+    {
+        match self.core.stage {
+            Stage::Serving => self.begin_saving(),
+            Stage::Saving { work, node } => self.save(work, node),
+            _ => Ok(self.rest()),
+        }
+    }
+
+    /// The open dataset is saved once the ranks ask for it.
+    fn begin_saving(&mut self) -> Result<Turn, SiteError>
         requires stage { self.old.core.stage ≡ Stage.Serving }
-        requires phase { self.old.core.phase ≡ Phase.Output }
-        requires waits { self.old.core.doing ≡ Doing.Waits (Step.Complete true) }
         ensures run { OnOk result (Keeps D.state self.old self.new) }
         ensures told { OnOk result (TellsOne self.old.history.events self.new.history.events) }
         ensures refused { OnErr result (self.new.history.events ≡ self.old.history.events) }
-        ensures program { self.new.program ≡ self.old.program }
+        ensures fixed { IsSameRun self.old self.new }
         ensures cause { SiteCause (states_of D.state self.old.bay) (states_of D.state self.new.bay) result }
     {
-        let Cached::Routed { member } = &self.core.cached else {
+        let asked = self.core.is_to_save(self.alloc)?;
+        let true = asked else {
+            return Ok(Turn::NotYet { why: Why::Idle });
+        };
+        self.write_record(0)
+    }
+
+    /// The change that comes next.
+    fn save(&mut self, work: Work, node: u8) -> Result<Turn, SiteError>
+        requires stage { self.old.core.stage ≡ Stage.Saving work node }
+        ensures run { OnOk result (Keeps D.state self.old self.new) }
+        ensures told { OnOk result (TellsOne self.old.history.events self.new.history.events) }
+        ensures refused { OnErr result (self.new.history.events ≡ self.old.history.events) }
+        ensures fixed { IsSameRun self.old self.new }
+        ensures cause { SiteCause (states_of D.state self.old.bay) (states_of D.state self.new.bay) result }
+    {
+        match work {
+            Work::Record => self.write_record(node),
+            Work::RecordSync => self.sync_record(node),
+            Work::Whole => self.open_whole(node),
+            Work::WholeSync => self.sync_whole(node),
+            Work::Sealed => self.open_sealed(node),
+            Work::SealedSync => self.sync_sealed(node),
+        }
+    }
+
+    /// A node's record is written, with its gates closed.
+    fn write_record(&mut self, node: u8) -> Result<Turn, SiteError>
+        requires saving { IsSavingAt D.state self.old work.Record node }
+        ensures run { OnOk result (Keeps D.state self.old self.new) }
+        ensures told { OnOk result (TellsOne self.old.history.events self.new.history.events) }
+        ensures refused { OnErr result (self.new.history.events ≡ self.old.history.events) }
+        ensures fixed { IsSameRun self.old self.new }
+        ensures cause { SiteCause (states_of D.state self.old.bay) (states_of D.state self.new.bay) result }
+    {
+        let Some(place) = self.core.places.of_node(node) else {
             return Err(SiteError::Memory);
         };
-        let bytes = record_bytes(self.alloc, member)?;
-        write_file(&mut self.bay, 0, b"d.1.1.0.m", 0, &bytes)?;
-        self.core.stage = Stage::Recorded;
+        let Some(m) = &self.core.opened else {
+            return Err(SiteError::Memory);
+        };
+        if node >= m.desc.nodes
+            || m.files.ranks() as u32 != m.desc.nodes as u32 * m.desc.ranks as u32
+        {
+            return Err(SiteError::Memory);
+        }
+        put_member(self.alloc, &mut self.bay, place, node, &m.desc, &m.files)?;
+        self.core.stage = Stage::Saving {
+            work: Work::RecordSync,
+            node,
+        };
         Ok(Turn::Moved)
     }
 
-    /// The record is stable.
-    pub(crate) fn sync_record(&mut self) -> Result<Turn, SiteError>
-        requires { self.old.core.stage ≡ Stage.Recorded }
+    /// A node's record is made stable.
+    fn sync_record(&mut self, node: u8) -> Result<Turn, SiteError>
+        requires stage { self.old.core.stage ≡ Stage.Saving Work.RecordSync node }
         ensures run { OnOk result (Keeps D.state self.old self.new) }
         ensures told { OnOk result (TellsOne self.old.history.events self.new.history.events) }
         ensures refused { OnErr result (self.new.history.events ≡ self.old.history.events) }
-        ensures program { self.new.program ≡ self.old.program }
+        ensures fixed { IsSameRun self.old self.new }
         ensures cause { SiteCause (states_of D.state self.old.bay) (states_of D.state self.new.bay) result }
     {
-        sync_device(&mut self.bay, 0)?;
-        self.core.stage = Stage::Synced;
+        let Some(place) = self.core.places.of_node(node) else {
+            return Err(SiteError::Memory);
+        };
+        sync_node(&mut self.bay, place)?;
+        self.core.stage = self.core.after(node, Work::Record, Work::Whole);
         Ok(Turn::Moved)
     }
 
-    /// The gate is opened.
-    pub(crate) fn open_gate(&mut self) -> Result<Turn, SiteError>
-        requires { self.old.core.stage ≡ Stage.Synced }
+    /// A node's gate `whole` is opened.
+    fn open_whole(&mut self, node: u8) -> Result<Turn, SiteError>
+        requires stage { self.old.core.stage ≡ Stage.Saving Work.Whole node }
         ensures run { OnOk result (Keeps D.state self.old self.new) }
         ensures told { OnOk result (TellsOne self.old.history.events self.new.history.events) }
         ensures refused { OnErr result (self.new.history.events ≡ self.old.history.events) }
-        ensures program { self.new.program ≡ self.old.program }
+        ensures fixed { IsSameRun self.old self.new }
         ensures cause { SiteCause (states_of D.state self.old.bay) (states_of D.state self.new.bay) result }
     {
-        let Cached::Routed { member } = &self.core.cached else {
+        let Some(place) = self.core.places.of_node(node) else {
             return Err(SiteError::Memory);
         };
-        let member = Member {
-            name: member.name.copy(self.alloc)?,
-            file: member.file.copy(self.alloc)?,
-            len: member.len,
+        let Some(which) = self.core.saved() else {
+            return Err(SiteError::Memory);
         };
+        put_gate(&mut self.bay, place, which, node, MemberGate::Whole)?;
+        self.core.stage = Stage::Saving {
+            work: Work::WholeSync,
+            node,
+        };
+        Ok(Turn::Moved)
+    }
+
+    /// A node's gate `whole` is made stable.
+    fn sync_whole(&mut self, node: u8) -> Result<Turn, SiteError>
+        requires stage { self.old.core.stage ≡ Stage.Saving Work.WholeSync node }
+        ensures run { OnOk result (Keeps D.state self.old self.new) }
+        ensures told { OnOk result (TellsOne self.old.history.events self.new.history.events) }
+        ensures refused { OnErr result (self.new.history.events ≡ self.old.history.events) }
+        ensures fixed { IsSameRun self.old self.new }
+        ensures cause { SiteCause (states_of D.state self.old.bay) (states_of D.state self.new.bay) result }
+    {
+        let Some(place) = self.core.places.of_node(node) else {
+            return Err(SiteError::Memory);
+        };
+        sync_node(&mut self.bay, place)?;
+        self.core.stage = self.core.after(node, Work::Whole, Work::Sealed);
+        Ok(Turn::Moved)
+    }
+
+    /// A node's gate `sealed` is opened; at the first, the dataset is in cache.
+    fn open_sealed(&mut self, node: u8) -> Result<Turn, SiteError>
+        requires stage { self.old.core.stage ≡ Stage.Saving Work.Sealed node }
+        ensures run { OnOk result (Keeps D.state self.old self.new) }
+        ensures told { OnOk result (TellsOne self.old.history.events self.new.history.events) }
+        ensures refused { OnErr result (self.new.history.events ≡ self.old.history.events) }
+        ensures fixed { IsSameRun self.old self.new }
+        ensures cause { SiteCause (states_of D.state self.old.bay) (states_of D.state self.new.bay) result }
+    {
+        match &self.core.opened {
+            Some(_) => self.seal_first(node),
+            None => self.seal_next(node),
+        }
+    }
+
+    /// The first gate `sealed` is opened: the dataset is in cache.
+    fn seal_first(&mut self, node: u8) -> Result<Turn, SiteError>
+        requires stage { self.old.core.stage ≡ Stage.Saving Work.Sealed node }
+        ensures run { OnOk result (Keeps D.state self.old self.new) }
+        ensures told { OnOk result (TellsOne self.old.history.events self.new.history.events) }
+        ensures refused { OnErr result (self.new.history.events ≡ self.old.history.events) }
+        ensures fixed { IsSameRun self.old self.new }
+        ensures cause { SiteCause (states_of D.state self.old.bay) (states_of D.state self.new.bay) result }
+    {
+        let Some(place) = self.core.places.of_node(node) else {
+            return Err(SiteError::Memory);
+        };
+        let Some(m) = &self.core.opened else {
+            return Err(SiteError::Memory);
+        };
+        let which = m.desc.which;
         self.history.reserve(1)?;
-        write_file(&mut self.bay, 0, b"d.1.1.0.m", 0, &[79])?;
-        self.history.push(Event::Sealing { which: FIRST })?;
-        self.core.seal(member);
+        self.core.kept.reserve()?;
+        put_gate(&mut self.bay, place, which, node, MemberGate::Sealed)?;
+        self.core.seal()?;
+        self.history.push(Event::Sealing { which })?;
+        self.core.stage = Stage::Saving {
+            work: Work::SealedSync,
+            node,
+        };
         Ok(Turn::Moved)
     }
 
-    /// The gate is stable.
-    pub(crate) fn settle(&mut self) -> Result<Turn, SiteError>
-        requires { self.old.core.stage ≡ Stage.Sealing }
+    /// A later node's gate `sealed` is opened.
+    fn seal_next(&mut self, node: u8) -> Result<Turn, SiteError>
+        requires stage { self.old.core.stage ≡ Stage.Saving Work.Sealed node }
         ensures run { OnOk result (Keeps D.state self.old self.new) }
         ensures told { OnOk result (TellsOne self.old.history.events self.new.history.events) }
         ensures refused { OnErr result (self.new.history.events ≡ self.old.history.events) }
-        ensures program { self.new.program ≡ self.old.program }
+        ensures fixed { IsSameRun self.old self.new }
         ensures cause { SiteCause (states_of D.state self.old.bay) (states_of D.state self.new.bay) result }
     {
+        let Some(place) = self.core.places.of_node(node) else {
+            return Err(SiteError::Memory);
+        };
+        let Some(which) = self.core.saved() else {
+            return Err(SiteError::Memory);
+        };
+        put_gate(&mut self.bay, place, which, node, MemberGate::Sealed)?;
+        self.core.stage = Stage::Saving {
+            work: Work::SealedSync,
+            node,
+        };
+        Ok(Turn::Moved)
+    }
+
+    /// A node's gate `sealed` is made stable; after the last, the dataset is settled.
+    fn sync_sealed(&mut self, node: u8) -> Result<Turn, SiteError>
+        requires stage { self.old.core.stage ≡ Stage.Saving Work.SealedSync node }
+        ensures run { OnOk result (Keeps D.state self.old self.new) }
+        ensures told { OnOk result (TellsOne self.old.history.events self.new.history.events) }
+        ensures refused { OnErr result (self.new.history.events ≡ self.old.history.events) }
+        ensures fixed { IsSameRun self.old self.new }
+        ensures cause { SiteCause (states_of D.state self.old.bay) (states_of D.state self.new.bay) result }
+    {
+        if node < self.core.shape.nodes - 1 {
+            self.sync_next(node)
+        } else {
+            self.settle(node)
+        }
+    }
+
+    /// A node's gate `sealed` is made stable, and another node comes.
+    fn sync_next(&mut self, node: u8) -> Result<Turn, SiteError>
+        requires stage { self.old.core.stage ≡ Stage.Saving Work.SealedSync node }
+        requires more { node < self.old.core.shape.nodes - 1 }
+        ensures run { OnOk result (Keeps D.state self.old self.new) }
+        ensures told { OnOk result (TellsOne self.old.history.events self.new.history.events) }
+        ensures refused { OnErr result (self.new.history.events ≡ self.old.history.events) }
+        ensures fixed { IsSameRun self.old self.new }
+        ensures cause { SiteCause (states_of D.state self.old.bay) (states_of D.state self.new.bay) result }
+    {
+        let Some(place) = self.core.places.of_node(node) else {
+            return Err(SiteError::Memory);
+        };
+        sync_node(&mut self.bay, place)?;
+        self.core.stage = Stage::Saving {
+            work: Work::Sealed,
+            node: node + 1,
+        };
+        Ok(Turn::Moved)
+    }
+
+    /// The last gate `sealed` is made stable: the dataset is settled.
+    fn settle(&mut self, node: u8) -> Result<Turn, SiteError>
+        requires stage { self.old.core.stage ≡ Stage.Saving Work.SealedSync node }
+        requires last { self.old.core.shape.nodes ≤ node + 1 }
+        ensures run { OnOk result (Keeps D.state self.old self.new) }
+        ensures told { OnOk result (TellsOne self.old.history.events self.new.history.events) }
+        ensures refused { OnErr result (self.new.history.events ≡ self.old.history.events) }
+        ensures fixed { IsSameRun self.old self.new }
+        ensures cause { SiteCause (states_of D.state self.old.bay) (states_of D.state self.new.bay) result }
+    {
+        let Some(place) = self.core.places.of_node(node) else {
+            return Err(SiteError::Memory);
+        };
+        let Some(which) = self.core.saved() else {
+            return Err(SiteError::Memory);
+        };
+        let None = &self.core.opened else {
+            return Err(SiteError::Memory);
+        };
         if self.core.settled == u32::MAX {
             return Err(SiteError::Memory);
         }
         self.history.reserve(1)?;
-        sync_device(&mut self.bay, 0)?;
-        self.history.push(Event::Settled { which: FIRST })?;
-        self.core.stage = Stage::Sealed;
-        self.core.settled += 1;
+        sync_node(&mut self.bay, place)?;
+        self.history.push(Event::Settled { which })?;
+        self.core.settle(which);
         Ok(Turn::Moved)
     }
 }

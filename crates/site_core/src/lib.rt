@@ -1,21 +1,30 @@
 //! A site: one run at a time over a bay, whose history is a run of the checkpoint machine.
 #![tactic(auto)]
 
+mod bay_calls;
+mod cache;
 mod calls;
+mod core_moves;
 mod core_state;
+mod deciding;
 mod encode;
 mod error;
-mod files;
+mod file_calls;
 mod local;
-mod member;
-mod record;
+mod places;
+mod programs;
 mod recover;
-mod serve;
+mod rows;
 mod site;
+mod storing;
 mod turn;
+mod verdict;
 
-pub use core_state::{Cached, Core, Doing, Stage};
+pub use cache::{Cache, Cached, Manifest, Mark};
+pub use core_state::{Core, Stage, Work};
 pub use error::SiteError;
-pub use member::Member;
-pub use site::{Closed, Site, Unbegun};
+pub use places::Places;
+pub use programs::Programs;
+pub use site::{Closed, Site, Unbegun, stop_devices};
+pub use storing::Storing;
 pub use turn::{Turn, Why};

@@ -1,11 +1,22 @@
 // A site, and how it is begun, taken turns with, and closed.
+ghost use Rattle.std.specs.Prelude.{◌≤◌, ℕ};
+ghost use Rattle.node_device.specs.Rack.{states_of};
+ghost use Rattle.node_device.specs.Calls.{Crashes};
+ghost use Rattle.ckpt_model.specs.Machine.{Machine, Setup};
+ghost use Rattle.site_core.specs.Calls.{TellsAll};
+ghost use Rattle.site_core.specs.Follows.{Stands};
+ghost use Rattle.site_core.specs.Holds.{HasRest};
 
+use crate::cache::Cache;
 use crate::core_state::{Core, Stage};
 use crate::error::SiteError;
+use crate::programs::Programs;
+use crate::storing::Storing;
 use crate::turn::{Turn, Why};
 use ckpt_model::History;
 use node_device::{Bay, Device};
-use scr_base::{Actor, Config, Shape, Step};
+use round_core::Round;
+use scr_base::{Actor, Bytes, Config, Phase, Shape, Step};
 use std::alloc::Global;
 
 /// A run of a site. It owns the bay while the run goes on.
@@ -13,7 +24,7 @@ use std::alloc::Global;
 pub struct Site<D> {
     pub(crate) alloc: Global,
     pub(crate) core: Core,
-    pub(crate) program: Vec<Step>,
+    pub(crate) programs: Programs,
     pub(crate) bay: Bay<D>,
     pub(crate) history: History,
 }
@@ -31,45 +42,57 @@ pub struct Closed<D> {
     pub bay: Bay<D>,
 }
 
+/// Stops every device after a run: what they hold then stands for the state that the run came to.
+pub fn stop_devices<D: Device>(bay: &mut Bay<D>, pick: u8)
+    requires { pick ≤ 3 }
+    ensures crashes { (place : ℕ) → Crashes (states_of D.state bay.old place) (states_of D.state bay.new place) }
+    ensures stands { TellsAll D.state → (s : Setup) (m : Machine) → HasRest s (states_of D.state bay.old) m → Stands s (states_of D.state bay.new) m }
+{
+    bay.stop(pick);
+}
+
 impl<D: Device> Site<D> {
-    ghost use Rattle.std.specs.Prelude.{◌≡◌, ◌≤◌, ◌↔◌, ◌∷◌, [], List, map, true, IfOk, IfErr, OnOk, OnErr};
+    ghost use Rattle.std.specs.Prelude.{◌≡◌, ◌≤◌, ◌*◌, ◌↔◌, ◌∷◌, [], List, map, length, true, IfOk, IfErr, OnOk, OnErr};
+    ghost use Rattle.scr_base.specs.Sets.{numbers_below};
     ghost use Rattle.node_device.specs.Rack.{states_of};
     ghost use Rattle.ckpt_model.specs.Machine.{Machine};
-    ghost use Rattle.site_core.specs.Form.{IsForm};
-    ghost use Rattle.site_core.specs.Follows.{Keeps, Follows, Stands, Ends, HasStopped, TellsOne, IsActor, SiteCause};
+    ghost use Rattle.site_core.specs.Shown.{setup_of};
+    ghost use Rattle.site_core.specs.Causes.{SiteCause};
+    ghost use Rattle.site_core.specs.Follows.{Keeps, Follows, Stands, Ends, HasStopped, TellsOne, IsActor, IsSameRun};
 
-    /// Begins a run over a bay, which it leaves as it is. The bay comes back where there is no memory.
+    /// Begins a run over a bay, which it leaves as it is. The bay comes back where there is no memory. The places are those of
+    /// the nodes in their order, and each rank has a program.
     pub fn begin(
         alloc: Global,
         bay: Bay<D>,
         shape: Shape,
         config: Config,
         places: Vec<u8>,
-        mut programs: Vec<Vec<Step>>,
+        programs: Vec<Vec<Step>>,
     ) -> Result<Site<D>, Unbegun<D>>
-        requires { IsForm shape config places.items (map (λ program. program.items) programs.items) }
+        requires places { places.items ≡ numbers_below shape.nodes }
+        requires programs { length programs.items ≡ shape.nodes * shape.ranks }
         ensures bay { IfOk result (λ site. site.bay ≡ bay) }
         ensures refused { IfErr result (λ left. left.bay ≡ bay) }
         ensures empty { IfOk result (λ site. site.history.events ≡ []) }
         ensures room { IfOk result (λ site. 1 ≤ site.history.spare) }
-        ensures program { IfOk result (λ site. map (λ program. program.items) programs.items ≡ site.program.items ∷ []) }
-        ensures follows { IfOk result (λ site. (first : Machine) → Stands (states_of D.state bay) first → Follows D.state first site) }
+        ensures setup { IfOk result (λ site. setup_of site.core ≡ record { shape = shape; config = config }) }
+        ensures places { IfOk result (λ site. site.core.places ≡ places.items) }
+        ensures programs { IfOk result (λ site. site.programs ≡ map (λ program. program.items) programs.items) }
+        ensures ranks { IfOk result (λ site. length site.core.ranks ≡ shape.nodes * shape.ranks) }
+        ensures follows { IfOk result (λ site. (first : Machine) → Stands (record { shape = shape; config = config }) (states_of D.state bay) first → Follows D.state first site) }
     {
-        let _ = shape;
-        let _ = config;
-        let _ = places;
         let mut history = History::new(alloc);
         if history.reserve(1).is_err() {
             return Err(Unbegun { bay });
         }
-        let program = match programs.pop() {
-            Some(program) => program,
-            None => return Err(Unbegun { bay }),
+        let Ok(core) = Core::new(alloc, shape, config, places) else {
+            return Err(Unbegun { bay });
         };
         Ok(Site {
             alloc,
-            core: Core::new(),
-            program,
+            core,
+            programs: Programs::of(programs),
             bay,
             history,
         })
@@ -77,21 +100,26 @@ impl<D: Device> Site<D> {
 
     /// Lets an actor take its turn: at most one change to one device, and at most one event.
     pub fn turn(&mut self, actor: Actor) -> Result<Turn, SiteError>
-        requires { IsActor actor }
+        requires { IsActor (length self.old.core.ranks) actor }
         ensures run { OnOk result (Keeps D.state self.old self.new) }
         ensures told { OnOk result (TellsOne self.old.history.events self.new.history.events) }
         ensures refused { OnErr result (self.new.history.events ≡ self.old.history.events) }
-        ensures program { self.new.program ≡ self.old.program }
+        ensures fixed { IsSameRun self.old self.new }
         ensures cause { SiteCause (states_of D.state self.old.bay) (states_of D.state self.new.bay) result }
     {
-        if self.stopped() {
-            return Ok(Turn::Ended);
-        }
         match actor {
             Actor::Recoverer => self.recover(),
-            Actor::Rank { rank: _ } => self.rank(),
+            Actor::Rank { rank } => self.rank(rank),
             Actor::Encoder => self.encode(),
-            Actor::Flusher | Actor::Evictor => Ok(Turn::NotYet { why: Why::Idle }),
+            Actor::Flusher | Actor::Evictor => Ok(self.rest()),
+        }
+    }
+
+    /// The turn of an actor that has nothing to do.
+    pub(crate) fn rest(&self) -> Turn {
+        match self.core.stage {
+            Stage::Stopped => Turn::Ended,
+            _ => Turn::NotYet { why: Why::Idle },
         }
     }
 
@@ -113,12 +141,12 @@ impl<D: Device> Site<D> {
     pub fn close(self) -> Closed<D>
         ensures history { result.history ≡ self.history }
         ensures bay { result.bay ≡ self.bay }
-        ensures ends { (first : Machine) → Follows D.state first self → HasStopped self → Ends (states_of D.state result.bay) first self.program.items result.history.events }
+        ensures ends { (first : Machine) → Follows D.state first self → HasStopped self → Ends (setup_of self.core) (states_of D.state result.bay) first self.core.places self.programs result.history.events }
     {
         let Site {
             alloc: _,
             core: _,
-            program: _,
+            programs: _,
             bay,
             history,
         } = self;

@@ -1,1 +1,5 @@
+pub mod Contents
+pub mod Kept
+pub mod Proper
 pub mod Showing
+pub mod Empty

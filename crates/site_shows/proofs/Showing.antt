@@ -1,97 +1,78 @@
--- Files that stand for a state show it.
-use Rattle.scr_base.specs.Sets.{is_among}
-use Rattle.std.proofs.Common.{◌≡◌, ℕ, zero, suc, ◌+◌, ◌≤◌, Bool, true, false, List, [], ◌∷◌, Option, Some, None, unwrap_or, refl, sym, ap, ◌∙◌, subst, arith, inl, inr, slice_get}
-use Rattle.std.specs.Prelude.{IsTrue, ◌⊎◌, ◌&&◌, nat_lt}
+-- Devices that stand for a state show it.
+use Rattle.std.proofs.Common.{◌≡◌, inl, ℕ, ◌≤◌, true, List, [], ◌∷◌, Some, None, refl, sym, ap, ◌∙◌, subst, slice_get, arith}
+use Rattle.std.specs.Prelude.{IsTrue, ◌==◌}
+use Rattle.std.proofs.lemmas.Bool.Decides.{nat_tests}
 use Rattle.scr_base.specs.declared.shape.DataId.{DataId}
-use Rattle.ckpt_model.specs.Machine.{Machine, Kept, MemberState}
-use Rattle.ckpt_model.specs.Machine.Mark.{Settled}
-use Rattle.ckpt_model.specs.Loss.{has_no_home}
-use Rattle.ckpt_model.specs.Proper.{IsProper}
-use Rattle.ckpt_model.specs.Shows.{BayView, Shows, ShowsMembers, ShowsPrefix, IsMemberAt, StandsAtHome, IsOfKept, IsLeftOver, IsEntryAt}
-use Rattle.site_core.specs.declared.member.Member.{Member}
-use Rattle.site_core.specs.Form.{one_node}
-use Rattle.site_core.specs.Records.{Files, IsMember, one, run_of, standing}
-use Rattle.site_core.specs.Shown.{kept_with, at_node, dataset_with}
-use Rattle.site_core.specs.Holds.{StandsFor, KeptRead, IsHeld}
-use Rattle.site_core.proofs.Parsing.{same_member}
-use Rattle.site_shows.specs.View.{Opens, Holds, thin_view}
+use Rattle.scr_base.specs.Sets.{is_among}
+use Rattle.node_device.specs.DeviceState.{DeviceState}
+use Rattle.ckpt_model.specs.Machine.{Machine, Setup, Kept, Entry, MemberState}
+use Rattle.ckpt_model.specs.Shows.{BayView, Shows, IsMemberAt, StandsAtHome, IsOfKept, IsEntryAt}
+use Rattle.site_core.specs.Shown.{set_of}
+use Rattle.site_core.specs.Stored.{cells_of}
+use Rattle.site_core.specs.Holds.{StandsFor}
+use Rattle.site_shows.specs.Fits.{IsFit}
+use Rattle.site_shows.specs.View.{Opens, Names, IsMemberOf, store_view}
+use Rattle.site_shows.proofs.Kept.{at_home, keeps, bytes, kept_at, set_at, member_at, has_member, own, member_of, reads, is_member}
+use Rattle.site_shows.proofs.Proper.{proper}
 
--- ## Where nothing is kept
+alone : (p q : ℕ) → p ≡ q → IsTrue (is_among p (q ∷ []))
+alone p q same = rw (here q p (sym same)) refl where
+  here : (x y : ℕ) → x ≡ y → (x == y) ≡ true
+  here x y e = grind (arith, nat_tests, e)
 
-none_open : (files : Files) → files.member ≡ None → Opens files → ⊥
-none_open files none o = let x : Some (standing o.0) ≡ None = sym o.2 ∙ none in cc
+module _ (s : Setup) (states : ℕ → DeviceState) (m : Machine) (h : StandsFor s states m) where
+  abbrev view : BayView
+  view = store_view s.shape states
 
-no_kept : (m : Machine) (k : Kept) (place : ℕ) → m.kept ≡ [] → slice_get m.kept place ≡ Some k → ⊥
-no_kept m k place none at = let x : None ≡ Some k = sym (ap (λ (ks : List Kept). slice_get ks place) none) ∙ at in cc
+  -- each member stands at home, sealed
+  present : (k : Kept) (node : ℕ) (st : MemberState) → IsMemberAt m k node st → StandsAtHome view k node st
+  present k node st at =
+      let set = set_at s states m h at.place k at.kept in
+      let x = set.0 in
+      let one = member_at s states m h x node st (subst (λ (l : Kept). slice_get l.members node ≡ Some st) set.2 at.state) in
+      let read = reads s states m h at.place x node set.1 one.0 in
+      let stands : StandsAtHome view (keeps s states m h x) node (at_home node) = record {
+        home = node;
+        is_home = alone node node refl;
+        whole = (member_of s states m h x node, read, refl);
+        sealed = λ sure. (member_of s states m h x node, read, refl, refl);
+      } in
+      subst (λ (l : Kept). StandsAtHome view l node st) (sym set.2) (subst (λ (y : MemberState). StandsAtHome view (keeps s states m h x) node y) (sym one.1) stands)
 
-shows_none : (files : Files) (m : Machine) → m.kept ≡ [] → StandsFor files m → Shows one_node (thin_view files) m
-shows_none files m none h =
-    let empty = subst (λ (ks : List Kept). KeptRead files ks) none h.kept in
-    record {
-      proper = record { apart = rw (none, h.index) tt; of_site = rw (none, h.index) refl; kept_rise = rw none refl; index_rise = rw h.index refl; members = rw none refl; homes = rw none refl };
-      members = record {
-        present = λ k node st at home sure. absurd (no_kept m k at.place none at.kept);
-        exact = λ p which node o. absurd (none_open files empty.0 o.3);
-      };
-      prefix = record {
-        present = λ e at. absurd (let x : None ≡ Some e = sym (ap (λ es. slice_get es at.place) h.index) ∙ at.entry in cc);
-        exact = λ which failed l. absurd l;
-        run = h.stored;
-        halt = sym h.halt;
-        mark = sym h.mark;
-        no_later = λ run o. absurd (none_open files empty.0 o.1);
-      };
-    }
+  -- each record that reads is a kept dataset's, at home
+  exact : (p : ℕ) (which : DataId) (node : ℕ) → Opens s.shape (cells_of states) p which node → IsOfKept view m p which node
+  exact p which node o =
+      let w = own s states m h p which node o.0 o.1 in
+      record {
+        kept = keeps s states m h w.manifest;
+        state = at_home node;
+        member = record { place = w.index; kept = kept_at s states m h w.index w.manifest w.at; state = has_member s states m h w.manifest node w.below };
+        same = w.same;
+        is_home = alone p node w.home;
+        exact = subst (λ (q : ℕ). IsMemberOf s.shape (cells_of states) q (set_of s (bytes s states m h) w.manifest) node) (sym w.home) (is_member s states m h w.index w.manifest node w.at w.below);
+      }
 
--- ## Where the one dataset is kept
+  no_entry : (e : Entry) → IsEntryAt m e → ⊥
+  no_entry e at = absurd (let x : None ≡ Some e = sym (ap (λ (es : List Entry). slice_get es at.place) h.index) ∙ at.entry in cc x)
 
-first_only : {A : Type 0} → (k x : A) (place : ℕ) → slice_get (k ∷ []) place ≡ Some x → (place ≡ 0) × (x ≡ k)
-first_only k x zero at = (refl, (let e : Some k ≡ Some x = at in cc))
-first_only k x (suc place) at = absurd (let e : None ≡ Some x = at in cc)
+  no_later : (run : ℕ) → Names s.shape (cells_of states) run → run ≤ m.run
+  no_later run o =
+      let w = own s states m h o.0 o.1 o.2 o.3 o.4 in
+      omega (arith, (h.store.sets_are w.manifest (w.index, w.at)).run_is, ap (λ (d : DataId). d.run) w.same, o.5)
 
-is_after_one : (run : ℕ) → 1 ≤ run → nat_lt 1 (run + 1) ≡ true
-is_after_one run ran = grind (arith, ran)
-
-shows_one : (files : Files) (m : Machine) (r : Member) (bytes : List ℕ) → m.kept ≡ kept_with Settled false r bytes ∷ [] → IsHeld files r bytes → 1 ≤ m.run → StandsFor files m → Shows one_node (thin_view files) m
-shows_one files m r bytes is held ran h =
-    let kept = kept_with Settled false r bytes in
-    let opens : Opens files = (r, held.is_member, held.member) in
-    record {
-      proper = record { apart = rw (is, h.index) ((inl refl, tt), tt); of_site = rw (is, h.index, is_after_one m.run ran) refl; kept_rise = rw is refl; index_rise = rw h.index refl; members = rw is refl; homes = rw is refl };
-      members = record {
-        present = λ k node st at home sure.
-            let ek = (first_only kept k at.place (subst (λ (ks : List Kept). slice_get ks at.place ≡ Some k) is at.kept)).1 in
-            let es = first_only at_node st node (subst (λ (x : Kept). slice_get x.members node ≡ Some st) ek at.state) in
-            subst (λ (x : Kept). StandsAtHome (thin_view files) x node st) (sym ek)
-            (subst (λ (x : MemberState). StandsAtHome (thin_view files) kept node x) (sym es.1)
-            (record { home = 0; is_home = refl; whole = (refl, refl, es.0, opens); sealed = λ d. (refl, refl, es.0, opens) }));
-        exact = λ p which node o. inl (record {
-          kept = kept;
-          state = at_node;
-          member = record { place = 0; kept = ap (λ (ks : List Kept). slice_get ks 0) is; state = ap (λ (n : ℕ). slice_get kept.members n) o.2 };
-          same = sym o.1;
-          is_home = ap (λ (q : ℕ). is_among q (0 ∷ [])) o.0;
-          exact = (o.0, o.2, (r, bytes, held, refl));
-        });
-      };
-      prefix = record {
-        present = λ e at. absurd (let x : None ≡ Some e = sym (ap (λ es. slice_get es at.place) h.index) ∙ at.entry in cc);
-        exact = λ which failed l. absurd l;
-        run = h.stored;
-        halt = sym h.halt;
-        mark = sym h.mark;
-        no_later = λ run o. subst (λ (n : ℕ). n ≤ m.run) (sym o.0) ran;
-      };
-    }
-
-did_run : (m : Machine) (k : Kept) → m.kept ≡ k ∷ [] → (m.kept ≡ []) ⊎ (1 ≤ m.run) → 1 ≤ m.run
-did_run m k e (inl none) = absurd (let x : k ∷ [] ≡ [] = sym e ∙ none in cc)
-did_run m k e (inr ran) = ran
-
-shows_kept : (files : Files) (m : Machine) (kept : List Kept) → m.kept ≡ kept → KeptRead files kept → StandsFor files m → (m.kept ≡ []) ⊎ (1 ≤ m.run) → Shows one_node (thin_view files) m
-shows_kept files m [] e read h ran = shows_none files m e h
-shows_kept files m (k ∷ []) e read h ran = shows_one files m read.0 read.1 (e ∙ ap (λ (x : Kept). x ∷ []) read.3) read.2 (did_run m k e ran) h
-shows_kept files m (k ∷ l ∷ kept) e read h ran = absurd read
-
-pub shown : (files : Files) (m : Machine) → StandsFor files m → (m.kept ≡ []) ⊎ (1 ≤ m.run) → Shows one_node (thin_view files) m
-shown files m h ran = shows_kept files m m.kept refl h.kept h ran
+  pub shown : IsFit s m → Shows s (store_view s.shape states) m
+  shown fit = record {
+    proper = proper s states m h fit;
+    members = record {
+      present = λ k node st at home sure. present k node st at;
+      exact = λ p which node o. inl (exact p which node o);
+    };
+    prefix = record {
+      present = λ e at. absurd (no_entry e at);
+      exact = λ which failed l. absurd l;
+      run = h.store.stored;
+      halt = sym h.halt;
+      mark = sym h.mark_is;
+      no_later = no_later;
+    };
+  }

@@ -1,12 +1,25 @@
-ghost use Rattle.std.specs.Prelude.{◌≡◌, ◌≤◌, ◌⊎◌, []};
-ghost use Rattle.ckpt_model.specs.Machine.{Machine};
+ghost use Rattle.std.specs.Prelude.{◌≤◌, ℕ, List};
+ghost use Rattle.ckpt_model.specs.Machine.{Machine, Setup, empty_machine};
+ghost use Rattle.ckpt_model.specs.Proper.{IsProper};
 ghost use Rattle.ckpt_model.specs.Shows.{Shows};
-ghost use Rattle.site_core.specs.Form.{one_node};
-ghost use Rattle.site_core.specs.Records.{Files};
+ghost use Rattle.node_device.specs.File.{IsEmpty};
+ghost use Rattle.node_device.specs.DeviceState.{DeviceState};
 ghost use Rattle.site_core.specs.Holds.{StandsFor};
-ghost use Rattle.site_shows.specs.View.{thin_view};
+ghost use Rattle.site_shows.specs.Fits.{IsFit};
+ghost use Rattle.site_shows.specs.View.{store_view};
 
-/// Files that stand for a state show that state to the machine. A state after no run keeps nothing.
+/// Devices that stand for a state show that state to the machine, where what no file tells of the state is right:
+/// the schemes of its datasets fit the site, and no two datasets have one name.
 pub fn stands_are_shown()
-    ensures { (files : Files) (m : Machine) → StandsFor files m → (m.kept ≡ []) ⊎ (1 ≤ m.run) → Shows one_node (thin_view files) m }
+    ensures { (s : Setup) (states : ℕ → DeviceState) (m : Machine) → StandsFor s states m → IsFit s m → Shows s (store_view s.shape states) m }
+{}
+
+/// What no file tells is no more than the machine asks: a proper state for which devices stand has it.
+pub fn proper_is_fit()
+    ensures { (s : Setup) (states : ℕ → DeviceState) (m : Machine) → StandsFor s states m → IsProper s m → IsFit s m }
+{}
+
+/// Devices that hold nothing stand for the state after no run.
+pub fn empty_devices_stand()
+    ensures { (s : Setup) (states : ℕ → DeviceState) → ((p : ℕ) (q : List ℕ) → p ≤ 32 → IsEmpty ((states p).file q)) → StandsFor s states empty_machine }
 {}

@@ -1,6 +1,6 @@
-//! What a site's thin records show of the checkpoint machine's state, in the machine's own words.
+//! What a site's files show of the checkpoint machine's state, in the machine's own words.
 #![tactic(auto)]
 
 mod law;
 
-pub use law::stands_are_shown;
+pub use law::{empty_devices_stand, proper_is_fit, stands_are_shown};

@@ -1,13 +1,8 @@
-use Rattle.std.proofs.Common.{◌∙◌}
+use Rattle.std.proofs.lemmas.Result.{err_from_is_err_and}
+use Rattle.scr_replay.proofs.Causes.{calm_then}
 use Rattle.scr_replay.proofs.playing.run_out.Goals as goal
 
-pub returns-then-stopped-clause-kept : goal.returns-then-stopped-clause-kept
-returns-then-stopped-clause-kept g c = λ first follows. c.in_ok-go_round.ensures.kept first (c.loop-round.invariant.kept first follows)
-
-pub loop-round-preserved : goal.loop-round-preserved
-loop-round-preserved g c =
-    record {
-      kept = λ first follows. c.in_ok-go_round.ensures.kept first (c.loop-round.invariant.kept first follows);
-      program = c.in_ok-go_round.ensures.program ∙ c.loop-round.invariant.program;
-      calm = λ place. c.in_ok-go_round.ensures.cause place ∙ c.loop-round.invariant.calm place;
-    }
+pub returns-in_err-go_round-clause-cause : goal.returns-in_err-go_round-clause-cause
+returns-in_err-go_round-clause-cause g c =
+    let p = err_from_is_err_and c.from_residual.result c.from_residual.ensures.1 in
+    rw (p.1, p.2) (calm_then _ _ _ c.in_err-go_round.field-0.0 c.loop-round.invariant.calm c.in_err-go_round.ensures.cause)

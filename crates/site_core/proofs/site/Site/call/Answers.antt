@@ -1,18 +1,25 @@
-use Rattle.std.proofs.Common.{ap, sym, subst, refl, ◌+◌}
-use Rattle.ckpt_model.specs.declared.event.Event.TheVariants as event
+use Rattle.std.proofs.Common.{◌≡◌, ◌∙◌, ℕ, sym, ap, refl, subst, ◌+◌, ◌<◌, ◌^◌}
 use Rattle.scr_base.specs.declared.content.Step.{Step}
+use Rattle.ckpt_model.specs.declared.event.Event.TheVariants as event
 use Rattle.node_device.specs.Rack.{states_of}
-use Rattle.site_core.specs.Follows.{files_in}
-use Rattle.site_core.specs.Holds.{Leads}
-use Rattle.site_core.specs.declared.core_state.Core.{Core}
+use Rattle.round_core.specs.declared.seat.Seat.{Seat}
+use Rattle.round_core.specs.Seats.{next_number}
 use Rattle.site_core.proofs.Told.{appended}
-use Rattle.site_core.proofs.Serving.{called}
+use Rattle.site_core.proofs.Serving.{called_on, some_same}
 use Rattle.site_core.proofs.site.Site.call.Goals as goal
 
+pub number_after-number-requires : goal.number_after-number-requires
+number_after-number-requires g c =
+    let next = c.requires.next in
+    let same : c.in-Some.seat.now ≡ next.seat = some_same c.in-Some.seat.now next.seat (c.in-Some.ensures ∙ next.is) in
+    subst (λ (x : Seat). x.number + 1 < 2 ^ 32) (sym same) next.small
+
 pub returns-clause-run : goal.returns-clause-run
-returns-clause-run g c = λ first f.
+returns-clause-run g c = λ tells first f.
     let s = c.args.self.now in
-    let files = files_in (states_of g.D.Device.state s.bay) in
-    let told = appended c.push.new.self.events s.history.events s.history.events (event.Call 0 (s.core.number + 1) c.in_ok-kept.kept) (event.Call 0 (s.core.number + 1) c.args.step) c.in_ok-push.ensures.events refl (ap (λ (x : Step). event.Call 0 (s.core.number + 1) x) c.in_ok-kept.ensures) in
-    let l = called first s.core s.program.items files s.history.events c.push.new.self.events c.args.step c.requires.stage c.requires.free c.requires.next c.requires.collective told f.leads in
-    record { tells = f.tells; leads = subst (λ (x : Core). Leads first x s.program.items files c.push.new.self.events) (sym c.call.ensures) l }
+    let next = c.requires.next in
+    let same : c.in-Some.seat.now ≡ next.seat = some_same c.in-Some.seat.now next.seat (c.in-Some.ensures ∙ next.is) in
+    let number : c.number_after-number.result ≡ next_number next.seat = c.number_after-number.ensures ∙ ap next_number same in
+    let told = appended c.push.new.self.events s.history.events s.history.events (event.Call c.args.rank c.number_after-number.result c.in_ok-told.told) (event.Call c.args.rank (next_number next.seat) c.args.step) c.in_ok-push.ensures.events refl
+    (ap (λ (n : ℕ). event.Call c.args.rank n c.in_ok-told.told) number ∙ ap (λ (x : Step). event.Call c.args.rank (next_number next.seat) x) c.in_ok-told.ensures) in
+    called_on first s.core s.programs (states_of g.D.Device.state s.bay) s.history.events c.push.new.self.events c.args.rank c.args.step c.arrive.new.self c.requires.stage next c.arrive.ensures told f

@@ -1,14 +1,13 @@
-use Rattle.std.proofs.Common.{sym, subst}
+use Rattle.std.proofs.Common.{sym, refl}
+use Rattle.scr_base.specs.declared.answers.Phase.TheVariants as phase
+use Rattle.scr_base.specs.declared.content.Step.TheVariants as step
 use Rattle.node_device.specs.Rack.{states_of}
-use Rattle.site_core.specs.Follows.{files_in}
-use Rattle.site_core.specs.Holds.{Leads}
-use Rattle.site_core.specs.declared.core_state.Core.{Core}
-use Rattle.site_core.proofs.Serving.{restart_begun}
+use Rattle.site_core.proofs.Serving.{closed_phase, rests_closed}
+use Rattle.site_core.proofs.Rounds.{restarts}
 use Rattle.site_core.proofs.site.Site.restart.Goals as goal
 
-pub returns-clause-run : goal.returns-clause-run
-returns-clause-run g c = λ first f.
+pub tell_round-requires-clause-steps : goal.tell_round-requires-clause-steps
+tell_round-requires-clause-steps g c = λ first f.
     let s = c.args.self.now in
-    let files = files_in (states_of g.D.Device.state s.bay) in
-    let l = restart_begun first s.core s.program.items files s.history.events c.push.new.self.events c.requires.stage c.in-Offered.is c.requires.waits c.in_ok-push.ensures.events f.leads in
-    record { tells = f.tells; leads = subst (λ (x : Core). Leads first x s.program.items files c.push.new.self.events) (sym c.decide.ensures) l }
+    let round = c.requires.round in
+    (closed_phase s.core phase.Restart (rests_closed first s.core s.programs (states_of g.D.Device.state s.bay) s.history.events step.Restart c.requires.stage f round refl), λ bytes. restarts c.args.self.now.core bytes c.in-Some.which round.complete round.first round.clear c.in-Some.is (sym c.if-not-has_settled.ensures))

@@ -1,14 +1,13 @@
-use Rattle.std.proofs.Common.{sym, subst}
+use Rattle.std.proofs.Common.{sym, refl}
+use Rattle.scr_base.specs.declared.answers.Phase.TheVariants as phase
+use Rattle.scr_base.specs.declared.content.Step.TheVariants as step
 use Rattle.node_device.specs.Rack.{states_of}
-use Rattle.site_core.specs.Follows.{files_in}
-use Rattle.site_core.specs.Holds.{Leads}
-use Rattle.site_core.specs.declared.core_state.Core.{Core}
-use Rattle.site_core.proofs.Serving.{restart_over}
+use Rattle.site_core.proofs.Serving.{closed_phase, rests_closed}
+use Rattle.site_core.proofs.Rounds.{restarted}
 use Rattle.site_core.proofs.site.Site.restarted.Goals as goal
 
-pub returns-clause-run : goal.returns-clause-run
-returns-clause-run g c = λ first f.
+pub tell_round-requires-clause-steps : goal.tell_round-requires-clause-steps
+tell_round-requires-clause-steps g c = λ first f.
     let s = c.args.self.now in
-    let files = files_in (states_of g.D.Device.state s.bay) in
-    let l = restart_over first s.core s.program.items files s.history.events c.push.new.self.events c.requires.stage c.in-Restart.is c.requires.waits c.in_ok-push.ensures.events f.leads in
-    record { tells = f.tells; leads = subst (λ (x : Core). Leads first x s.program.items files c.push.new.self.events) (sym c.decide.ensures) l }
+    let round = c.requires.round in
+    (closed_phase s.core phase.Idle (rests_closed first s.core s.programs (states_of g.D.Device.state s.bay) s.history.events (step.Restarted c.args.valid) c.requires.stage f round refl), λ bytes. restarted c.args.self.now.core bytes c.args.valid round.complete round.first round.clear (sym c.if-not-is_valid.ensures))

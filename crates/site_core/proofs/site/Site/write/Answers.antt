@@ -1,32 +1,48 @@
-use Rattle.std.proofs.Common.{◌≡◌, ◌∙◌, List, ℕ, ap, sym, subst, refl, ◌+◌, ◌≤◌, max, length, arith, Option, Some}
+use Rattle.std.proofs.Common.{◌≡◌, List, ℕ, Some, ap, refl, ◌∙◌, ◌+◌, slice_get}
+use Rattle.std.specs.Prelude.{slice_set}
+use Rattle.filemap.specs.Rows.{place_of, extended}
+use Rattle.filemap.specs.Maps.{rows_of}
 use Rattle.node_device.specs.Rack.{states_of}
-use Rattle.site_core.specs.Follows.{files_in}
-use Rattle.site_core.specs.Holds.{Leads}
+use Rattle.ckpt_model.specs.declared.event.Event.TheVariants as event
+use Rattle.scr_base.specs.declared.answers.Reply.TheVariants as reply
+use Rattle.scr_base.specs.declared.content.Step.TheVariants as step
+use Rattle.round_core.specs.Seats.{stepped}
+use Rattle.site_core.specs.Choosing.{rows_at}
+use Rattle.site_core.specs.Cores.{with_rows, with_open}
 use Rattle.site_core.specs.declared.core_state.Core.{Core}
 use Rattle.site_core.proofs.Told.{appended}
-use Rattle.node_device.specs.File.{written, bytes_of}
-use Rattle.node_device.specs.Rack.{OnlyAt}
-use Rattle.site_core.specs.Records.{part_file}
-use Rattle.site_core.specs.Follows.{Written}
-use Rattle.site_core.proofs.Saving.{wrote, same_name, has_part, not_over}
-use Rattle.site_core.proofs.States.{part_put}
+use Rattle.site_core.proofs.LocalCalls.{clear_write}
+use Rattle.site_core.proofs.LocalSteps.{write_told, each_tells, hand_opened, lead_on, tells_one}
 use Rattle.site_core.proofs.site.Site.write.Goals as goal
 
+pub end_of-requires : goal.end_of-requires
+end_of-requires g c = (clear_write c.args.self.now.core c.args.rank c.args.word c.args.at c.args.content c.requires.clear).short
+
 pub returns-clause-run : goal.returns-clause-run
-returns-clause-run g c = λ first f.
+returns-clause-run g c = λ tells first follows.
     let s = c.args.self.now in
-    let d0 = states_of g.D.Device.state s.bay in
-    let files = files_in d0 in
-    let d1 = states_of g.D.Device.state c.write_file.new.bay in
-    let r = c.in-Routed.member in
-    let part = has_part first s.core s.program.items files s.history.events r c.requires.stage c.in-Routed.is f.leads in
-    let wrote_text = subst (λ (b : List ℕ). OnlyAt 0 (Written part_file c.args.at b) d0 d1) c.bytes-4.ensures.value c.in_ok-write_file.ensures.written in
-    let moved = part_put d0 d1 c.args.at c.args.text wrote_text f.tells in
-    let named : r.file ≡ c.args.name = sym c.bytes.ensures.value ∙ same_name _ _ (sym c.same_bytes.ensures ∙ c.in-true.is) ∙ c.bytes-2.ensures.value in
-    let longer : c.longer-len.result ≡ max r.len (c.args.at + length c.args.text) = c.longer-len.ensures ∙ ap (λ (t : List ℕ). max r.len (c.args.at + length t)) c.bytes-3.ensures.value in
-    let end : c.args.at + length c.args.text ≤ 1048576 = subst (λ (t : List ℕ). c.args.at + length t ≤ 1048576) c.bytes-3.ensures.value c.if-end-gt1048576.false in
-    let told = appended c.push.new.self.events c.reserve.new.self.events s.history.events _ _ c.in_ok-push.ensures.events c.reserve.ensures.events refl in
-    let l = wrote first s.core s.program.items files (files_in d1) s.history.events c.push.new.self.events r c.args.name c.args.at c.longer-len.result c.args.text part.0
-    c.requires.stage c.in-Output.is c.requires.free c.in-Routed.is named (not_over (c.args.at + length c.args.text) end) (omega (arith, end)) c.requires.next longer
-    (λ was. moved.files_are ∙ ap (λ (o : Option (List ℕ)). record files { part = Some (written (bytes_of o) c.args.at c.args.text) }) was) part.1 told f.leads in
-    record { tells = moved.tells; leads = subst (λ (x : Core). Leads first x s.program.items (files_in d1) c.push.new.self.events) (sym (c.lengthen.ensures r c.in-Routed.is)) l }
+    let state = g.D.Device.state in
+    let n = c.requires.next in
+    let rank = c.args.rank in
+    let after = c.go_past.new.self in
+    let m = c.in-Some.ensures.set in
+    let file = c.number_of-file.result in
+    let here : slice_get c.extend.new.self.ranks rank ≡ Some n.seat = ap (λ (x : Core). slice_get x.ranks rank) c.extend.ensures.rest ∙ n.is in
+    let number = c.number_of-file.ensures.number ∙ ap (λ (w : List ℕ). place_of (rows_at s.core rank) w) c.bytes.ensures.value in
+    let e = event.Local rank (n.seat.number + 1) (step.Write c.args.word c.args.at c.args.content) reply.Done in
+    let more = appended after.history.events c.reserve.new.self.events s.history.events e e (c.in_ok-go_past.ensures.events n.seat here) c.reserve.ensures.events refl in
+    let opened = hand_opened s.core m (clear_write s.core rank c.args.word c.args.at c.args.content c.requires.clear).output c.in-Some.ensures.hand in
+    let core = c.in_ok-go_past.ensures.core n.seat here
+    ∙ ap (λ (x : Core). let y : Core = record x { ranks = slice_set x.ranks rank (stepped n.seat) } in y) (c.in_ok-extend.ensures.ok m opened) in
+    lead_on first (with_open s.core (with_rows m rank (extended (rows_of m.files rank) file c.end_of.result)) (slice_set s.core.ranks rank (stepped n.seat))) after.core s.programs after.programs (states_of state c.put_part.new.bay) (states_of state after.bay) after.history.events
+    core c.go_past.ensures.fixed.programs (ap (states_of state) c.go_past.ensures.bay)
+    (write_told first s.core s.programs (states_of state s.bay) (states_of state c.put_part.new.bay) s.history.events after.history.events rank file c.args.word c.args.at c.args.content c.list.result.now c.end_of.result c.in-Some.spot
+    c.requires.stage n c.requires.clear c.in-Some.ensures number c.number_of-file.ensures.rows (c.list.ensures ∙ c.in_ok-bytes.ensures) c.end_of.ensures c.in_ok-put_part.ensures.written (λ p low. each_tells state s.bay tells p) more follows)
+
+pub returns-clause-told : goal.returns-clause-told
+returns-clause-told g c =
+    let s = c.args.self.now in
+    let n = c.requires.next in
+    let here : slice_get c.extend.new.self.ranks c.args.rank ≡ Some n.seat = ap (λ (x : Core). slice_get x.ranks c.args.rank) c.extend.ensures.rest ∙ n.is in
+    let e = event.Local c.args.rank (n.seat.number + 1) (step.Write c.args.word c.args.at c.args.content) reply.Done in
+    tells_one s.history.events c.go_past.new.self.history.events e (appended c.go_past.new.self.history.events c.reserve.new.self.events s.history.events e e (c.in_ok-go_past.ensures.events n.seat here) c.reserve.ensures.events refl)

@@ -1,22 +1,23 @@
-use Rattle.std.proofs.Common.{◌≡◌, ◌∙◌, List, ℕ, ap, subst, Option, Some, None}
+use Rattle.std.proofs.Common.{◌≡◌, sym, subst}
 use Rattle.node_device.specs.Rack.{states_of}
-use Rattle.site_core.specs.Follows.{files_in}
-use Rattle.node_device.specs.File.{written, bytes_of}
-use Rattle.node_device.specs.Rack.{OnlyAt}
-use Rattle.site_core.specs.Records.{member_file, shut}
-use Rattle.site_core.specs.Follows.{Written}
-use Rattle.site_core.proofs.Saving.{recorded}
-use Rattle.site_core.proofs.States.{member_put, written_new}
+use Rattle.site_core.specs.Holds.{IsSaving}
+use Rattle.site_core.specs.declared.cache.Manifest.{Manifest}
+use Rattle.site_core.specs.declared.core_state.Work.TheVariants as work
+use Rattle.site_core.proofs.Saving.{saving_leads}
+use Rattle.site_core.proofs.SaveMoves.{recorded}
+use Rattle.site_core.proofs.Works.{opened_is}
+use Rattle.site_core.proofs.Telling.{tells_all}
+use Rattle.site_core.proofs.Sounds.{sound_of}
 use Rattle.site_core.proofs.site.Site.write_record.Goals as goal
 
 pub returns-clause-run : goal.returns-clause-run
-returns-clause-run g c = λ first f.
+returns-clause-run g c = λ tells first f.
     let s = c.args.self.now in
-    let d0 = states_of g.D.Device.state s.bay in
-    let files = files_in d0 in
-    let d1 = states_of g.D.Device.state c.write_file.new.bay in
-    let r = c.in-Routed.member in
-    let wrote = subst (λ (b : List ℕ). OnlyAt 0 (Written member_file 0 b) d0 d1) (c.deref.ensures.value ∙ c.in_ok-bytes.ensures) c.in_ok-write_file.ensures.written in
-    let moved = member_put d0 d1 (shut r) wrote f.tells in
-    let puts = λ (none : files.member ≡ None). moved.files_are ∙ ap (λ (o : Option (List ℕ)). record files { member = Some (written (bytes_of o) 0 (shut r)) }) none ∙ ap (λ (b : List ℕ). record files { member = Some b }) (written_new (shut r)) in
-    record { tells = moved.tells; leads = recorded first s.core s.program.items files (files_in d1) s.history.events r c.requires.stage c.requires.phase c.requires.waits c.in-Routed.is puts f.leads }
+    let old = states_of g.D.Device.state s.bay in
+    let new = states_of g.D.Device.state c.put_member.new.bay in
+    let m = c.in-Some-opened.m in
+    let h = c.requires.saving first f in
+    let same : m ≡ h.0 = opened_is first s.core s.programs old s.history.events work.Record c.args.node h.0 m h.1 c.in-Some-opened.is in
+    let saving = subst (λ (x : Manifest). IsSaving first s.core s.programs old s.history.events work.Record c.args.node x) (sym same) h.1 in
+    saving_leads first s.core s.programs new s.history.events work.RecordSync c.args.node m
+    (recorded first s.core s.programs old new s.history.events c.args.node m c.in-Some.place (sym c.in-Some.ensures.place) saving c.in_ok-put_member.ensures.recorded (tells_all g.D.Device.state tells s.bay) (sound_of g.D.Device.state g.met.D.Device.sound c.put_member.new.bay))

@@ -1,0 +1,114 @@
+-- A run takes its number, and the number comes to the prefix.
+use Rattle.std.proofs.Common.{◌≡◌, inl, inr, ℕ, ◌+◌, ◌<◌, ◌^◌, true, false, List, [], ◌∷◌, ◌++◌, map, Option, Some, None, refl, sym, ap, ap₂, ◌∙◌, subst, arith, codes}
+use Rattle.std.proofs.lemmas.Bool.Decides.{nat_tests}
+use Rattle.scr_base.specs.declared.content.Step.{Step}
+use Rattle.node_device.specs.DeviceState.{DeviceState}
+use Rattle.node_device.specs.Outcomes.{rest_leaves}
+use Rattle.gated_record.specs.Pair.{value_in, newer, copy_name, pair_value, MayFollow, next_version}
+use Rattle.gated_record.specs.declared.pair.PairValue.{PairValue}
+use Rattle.ckpt_model.specs.declared.event.Event.{Event}
+use Rattle.ckpt_model.specs.declared.event.Event.TheVariants as event
+use Rattle.ckpt_model.specs.declared.event.StopCause.TheVariants as cause
+use Rattle.ckpt_model.specs.Machine.{Machine, Setup, Stage as Place}
+use Rattle.ckpt_model.specs.Legal.{IsRunOf}
+use Rattle.ckpt_model.specs.Legal.Place.{AtEnd}
+use Rattle.ckpt_model.specs.Runs.{StepsTo}
+use Rattle.ckpt_model.proofs.RunLemmas.{run_on}
+use Rattle.site_core.specs.declared.core_state.Core.{Core}
+use Rattle.site_core.specs.declared.core_state.Stage.{Stage}
+use Rattle.site_core.specs.declared.core_state.Stage.TheVariants as stage
+use Rattle.site_core.specs.Numbers.{way_of}
+use Rattle.site_core.specs.Shown.{setup_of, kept_of}
+use Rattle.site_core.specs.Stored.{cells_of, contents_in, stored_run, run_number, FilesStand, RecordsStand, NoOtherRecords}
+use Rattle.site_core.specs.Holds.{HoldsAt, ToldAt, Leads, IsOneOf, settled_set, IsBegun, IsStoring}
+
+begun_at : (s : Stage) (c : Core) (states : ℕ → DeviceState) (m : Machine) → s ≡ stage.Begun → HoldsAt s c states m → IsBegun c states m
+begun_at s c states m e h = subst (λ (x : Stage). HoldsAt x c states m) e h
+
+told_begun : (s : Stage) (places : List ℕ) (programs : List (List Step)) (events : List Event) → s ≡ stage.Begun → ToldAt s places programs events → events ≡ []
+told_begun s places programs events e h = subst (λ (x : Stage). ToldAt x places programs events) e h
+
+pub storing_at : (s : Stage) (c : Core) (states : ℕ → DeviceState) (m : Machine) → s ≡ stage.Storing → HoldsAt s c states m → IsStoring c states m
+storing_at s c states m e h = subst (λ (x : Stage). HoldsAt x c states m) e h
+
+pub told_storing : (s : Stage) (places : List ℕ) (programs : List (List Step)) (events : List Event) → s ≡ stage.Storing → ToldAt s places programs events → events ≡ []
+told_storing s places programs events e h = subst (λ (x : Stage). ToldAt x places programs events) e h
+
+-- ## The number is found
+
+next_below : (n : ℕ) → n + 1 < 2 ^ 32 → n + 1 ≡ next_version n
+next_below n fits = grind (arith, nat_tests, fits)
+
+may_follow : (old : Option PairValue) (n : ℕ) → n + 1 < 2 ^ 32 → n ≡ run_number old → MayFollow old (record { version = n + 1; body = [] })
+may_follow None n fits is = tt
+may_follow (Some value) n fits is = inr (next_below n fits ∙ ap next_version is)
+
+-- the run with this number, which is on its way
+abbrev pub numbered_core : Core → ℕ → Core
+numbered_core c run = record c { stage = stage.Storing; run = run; storing = way_of run }
+
+pub numbered : (first : Machine) (c : Core) (programs : List (List Step)) (states : ℕ → DeviceState) (events : List Event) (n : ℕ) → c.stage ≡ stage.Begun → n + 1 < 2 ^ 32 → n ≡ stored_run (cells_of states)
+    → Leads first c programs states events → Leads first (numbered_core c (n + 1)) programs states events
+numbered first c programs states events n at fits is leads =
+    let m = leads.state in
+    let b = begun_at c.stage c states m at leads.holds in
+    let fresh = b.fresh in
+    let h = b.stands in
+    let old = pair_value (codes "run") (cells_of states 32) in
+    let want : PairValue = record { version = n + 1; body = [] } in
+    record {
+      state = m;
+      run = leads.run;
+      holds = record {
+        fresh = record { places = fresh.places; phase_is = fresh.phase_is; offer = fresh.offer; opened = fresh.opened; ranks = fresh.ranks; settled = fresh.settled };
+        sets = h.sets;
+        old = old;
+        old_is = h.store.stored;
+        want = refl;
+        way = λ told. record {
+          leaves = λ a b may_a may_b.
+              ap₂ newer (ap (value_in 0) (rest_leaves ((states 32).file (copy_name (codes "run") 0)) a (h.quiet 32 (copy_name (codes "run") 0) (omega arith)) may_a))
+              (ap (value_in 1) (rest_leaves ((states 32).file (copy_name (codes "run") 1)) b (h.quiet 32 (copy_name (codes "run") 1) (omega arith)) may_b));
+          follows = may_follow old n fits is;
+        };
+        quiet = λ p q low other. h.quiet p q low;
+        rise = h.store.rise;
+        sets_are = h.store.sets_are;
+        files = λ x one. subst (λ (ps : List ℕ). FilesStand (cells_of states) ps c.shape.ranks x) (sym fresh.places) (h.store.files x one);
+        records = λ x one. subst (λ (ps : List ℕ). RecordsStand (cells_of states) ps x) (sym fresh.places) (h.store.records x one);
+        others = subst (λ (ps : List ℕ). NoOtherRecords (IsOneOf h.sets) (cells_of states) ps) (sym fresh.places) h.store.others;
+        future = h.store.future;
+        between = h.between;
+        kept = subst (λ (ps : List ℕ). m.kept ≡ map (kept_of (setup_of c) (contents_in (cells_of states) ps c.shape.ranks) ps) (map settled_set h.sets)) (sym fresh.places) h.kept;
+        index = h.index;
+        halt = h.halt;
+        mark_is = h.mark_is;
+        run = ap (λ (k : ℕ). k + 1) (is ∙ h.store.stored);
+        fits = fits;
+      };
+      told = told_begun c.stage c.places programs events at leads.told;
+    }
+
+-- ## There is no number left
+
+-- the state after a stop that decided nothing
+abbrev halted : Machine → Machine
+halted m = record m { stage = Place.Between; open_dataset = None; fetching = None; flushing = None; index = []; halt = m.halt; mark = m.mark }
+
+runs_out : (s : Setup) (m : Machine) → m.stage ≡ Place.Between → m.index ≡ [] → m.run ≡ 4294967295 → StepsTo s m (event.Stop cause.Runs) (halted m)
+runs_out s m at none is = (record { made = []; entries = []; took = true; stored = false }, rw (at, is) refl, rw (at, none) refl)
+
+pub numbers_over : (first : Machine) (c : Core) (programs : List (List Step)) (states : ℕ → DeviceState) (events events' : List Event) → c.stage ≡ stage.Begun → stored_run (cells_of states) ≡ 4294967295
+    → events' ≡ events ++ event.Stop cause.Runs ∷ [] → Leads first c programs states events → Leads first (record c { stage = stage.Stopped }) programs states events'
+numbers_over first c programs states events events' at last more leads =
+    let m = leads.state in
+    let b = begun_at c.stage c states m at leads.holds in
+    let h = b.stands in
+    let none = told_begun c.stage c.places programs events at leads.told in
+    let alone : events' ≡ event.Stop cause.Runs ∷ [] = more ∙ ap (λ (es : List Event). es ++ event.Stop cause.Runs ∷ []) none in
+    record {
+      state = halted m;
+      run = run_on (setup_of c) first m (halted m) events events' (event.Stop cause.Runs) more leads.run (runs_out (setup_of c) m h.between h.index (sym h.store.stored ∙ last));
+      holds = inl (record { sets = h.sets; quiet = h.quiet; store = h.store; between = refl; kept = h.kept; index = refl; halt = h.halt; mark_is = h.mark_is });
+      told = subst (λ (es : List Event). IsRunOf c.places programs AtEnd es) (sym alone) (record { begin = refl; stop = refl; steps = (tt, tt); place = refl });
+    }

@@ -1,0 +1,76 @@
+-- A run begins over devices that stand, and devices that stand do so after a stop.
+use Rattle.std.proofs.Common.{◌≡◌, inl, inr, ℕ, ◌+◌, ◌*◌, ◌<◌, ◌≤◌, true, List, [], map, replicate, Option, refl, sym, ap, ap₂, ◌∙◌, subst, arith, codes}
+use Rattle.std.proofs.Math.Path.{fun_ext}
+use Rattle.scr_base.specs.Sets.{numbers_below}
+use Rattle.scr_base.specs.declared.shape.Shape.{Shape}
+use Rattle.scr_base.specs.declared.shape.Config.{Config}
+use Rattle.scr_base.specs.declared.content.Step.{Step}
+use Rattle.node_device.specs.DeviceState.{DeviceState}
+use Rattle.node_device.specs.Calls.{Crashes}
+use Rattle.node_device.specs.Outcomes.{rest_leaves}
+use Rattle.gated_record.specs.Pair.{pair_value}
+use Rattle.ckpt_model.specs.declared.event.Event.{Event}
+use Rattle.ckpt_model.specs.Machine.{Machine, Setup}
+use Rattle.ckpt_model.specs.Runs.{RunsTo}
+use Rattle.round_core.specs.Seats.{fresh_seat}
+use Rattle.site_core.specs.declared.core_state.Core.{Core}
+use Rattle.site_core.specs.declared.core_state.Stage.{Stage}
+use Rattle.site_core.specs.Cores.{IsNewCore}
+use Rattle.site_core.specs.Shown.{Contents, setup_of, kept_of}
+use Rattle.site_core.specs.Stored.{cells_of, run_number}
+use Rattle.site_core.specs.Holds.{HoldsAt, ToldAt, Leads, StandsFor, HasRest, IsOneOf, settled_set, IsBegun}
+use Rattle.site_core.proofs.Stored.{others_after, future_after, contents_after, files_after, records_after}
+use Rattle.site_core.proofs.Ending.{crashed}
+
+pub begun_leads : (first : Machine) (shape : Shape) (config : Config) (c : Core) (programs : List (List Step)) (states : ℕ → DeviceState) (events : List Event) → IsNewCore shape config c → events ≡ []
+    → StandsFor (record { shape = shape; config = config }) states first → Leads first c programs states events
+begun_leads first shape config c programs states events new none stands =
+    let same : setup_of c ≡ record { shape = shape; config = config } = ap₂ (λ (s : Shape) (f : Config). let x : Setup = record { shape = s; config = f } in x) new.shape_is new.config_is in
+    let begun : IsBegun c states first = record {
+      fresh = record {
+        places = new.places ∙ ap (λ (s : Shape). numbers_below s.nodes) (sym new.shape_is);
+        phase_is = new.phase_is;
+        offer = new.offer;
+        opened = new.opened;
+        ranks = new.ranks ∙ ap (λ (s : Shape). replicate (s.nodes * s.ranks) fresh_seat) (sym new.shape_is);
+        settled = new.settled;
+      };
+      stands = subst (λ (s : Setup). StandsFor s states first) (sym same) stands;
+    } in
+    record {
+      state = first;
+      run = subst (λ (es : List Event). RunsTo (setup_of c) first es first) (sym none) refl;
+      holds = subst (λ (s : Stage). HoldsAt s c states first) (sym new.stage_is) begun;
+      told = subst (λ (s : Stage). ToldAt s c.places programs events) (sym new.stage_is) none;
+    }
+
+module _ (s : Setup) (states after : ℕ → DeviceState) (m : Machine) (crash : (p : ℕ) → p ≤ 32 → Crashes (states p) (after p)) (tells : (p : ℕ) → p ≤ 32 → (after p).tells ≡ true) where
+  -- devices that stand and are quiet stand after a stop
+  quiet_stands : StandsFor s states m → StandsFor s after m
+  quiet_stands h =
+      let same : (p : ℕ) → p ≤ 32 → cells_of after p ≡ cells_of states p = λ p low. fun_ext (λ q. rest_leaves ((states p).file q) ((after p).file q).now (h.quiet p q low) ((crash p low).outcome (tells p low) q)) in
+      let nodes : (p : ℕ) → p < 32 → cells_of after p ≡ cells_of states p = λ p low. same p (omega (arith, low)) in
+      let places = numbers_below s.shape.nodes in
+      record {
+        sets = h.sets;
+        quiet = λ p q low. (crash p low).at_rest q;
+        store = record {
+          stored = ap (λ (f : List ℕ → Option (List ℕ)). run_number (pair_value (codes "run") f)) (same 32 (omega arith)) ∙ h.store.stored;
+          rise = h.store.rise;
+          sets_are = h.store.sets_are;
+          files = λ x one. files_after states after nodes s.shape places refl x (h.store.files x one);
+          records = λ x one. records_after states after nodes s.shape places refl x (h.store.records x one);
+          others = others_after states after nodes (IsOneOf h.sets) places h.store.others;
+          future = future_after states after nodes (m.run + 1) 0 h.store.future;
+        };
+        between = h.between;
+        kept = h.kept ∙ ap (λ (bytes : Contents). map (kept_of s bytes places) (map settled_set h.sets)) (sym (contents_after states after nodes s.shape places refl));
+        index = h.index;
+        halt = h.halt;
+        mark_is = h.mark_is;
+      }
+
+  -- what has come to rest stands after a stop
+  pub rests : HasRest s states m → StandsFor s after m
+  rests (inl h) = quiet_stands h
+  rests (inr over) = subst (λ (x : Setup). StandsFor x after m) over.1 (crashed over.0 states after m over.2 crash tells)

@@ -1,0 +1,17 @@
+use Rattle.std.proofs.Common.{sym, ◌∙◌, ap, Some}
+use Rattle.scr_base.specs.declared.content.Step.{Step}
+use Rattle.site_core.specs.Choosing.{verdict_of}
+use Rattle.site_core.proofs.Called.{all_called}
+use Rattle.site_core.proofs.core_state.Core.is_to_save.Goals as goal
+
+pub verdict-requires : goal.verdict-requires
+verdict-requires c = all_called c.args.self.now.ranks (sym c.in-None.ensures)
+
+pub returns-in-None-verdict-clause-round : goal.returns-in-None-verdict-clause-round
+returns-in-None-verdict-clause-round c = λ is. record {
+  complete = all_called c.args.self.now.ranks (sym c.in-None.ensures);
+  valid = c.in-Complete.valid;
+  first = sym c.in-Some-call.ensures ∙ ap (λ (x : Step). Some x) c.in-Complete.is;
+  clear = ap (λ (x : Step). verdict_of c.args.self.now x) (sym c.in-Complete.is) ∙ sym c.in_ok-verdict.ensures.verdict ∙ c.in-None-verdict.is;
+  all = sym c.if-not-is_valid.ensures;
+}

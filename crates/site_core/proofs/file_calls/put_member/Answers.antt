@@ -1,0 +1,25 @@
+use Rattle.std.proofs.Common.{Err, sym, subst}
+use Rattle.node_device.specs.Rack.{states_of}
+use Rattle.site_core.specs.Causes.{SiteCause}
+use Rattle.site_core.specs.declared.error.SiteError.{SiteError}
+use Rattle.site_core.proofs.CallCauses.{refused, record_refused, recorded, calm_at}
+use Rattle.site_core.proofs.file_calls.put_member.Goals as goal
+
+pub returns-in-Ok-clause-recorded : goal.returns-in-Ok-clause-recorded
+returns-in-Ok-clause-recorded g c =
+    let old = states_of g.D.Device.state c.args.bay.now in
+    let new = states_of g.D.Device.state c.write_member_at.new.bay in
+    record {
+      here = recorded c.args.node c.args.desc.now c.args.files.now (old c.args.place) (new c.args.place) c.in-Ok.field-0 c.in-Ok.ensures.here;
+      others = c.in-Ok.ensures.others;
+    }
+
+pub returns-in-Ok-clause-cause : goal.returns-in-Ok-clause-cause
+returns-in-Ok-clause-cause g c = calm_at c.args.place (states_of g.D.Device.state c.args.bay.now) (states_of g.D.Device.state c.write_member_at.new.bay) c.in-Ok.ensures.others c.in-Ok.ensures.here.cause
+
+pub returns-in-Err-clause-cause : goal.returns-in-Err-clause-cause
+returns-in-Err-clause-cause g c =
+    let old = states_of g.D.Device.state c.args.bay.now in
+    let new = states_of g.D.Device.state c.write_member_at.new.bay in
+    let why = record_refused c.args.place c.args.node c.args.desc.now c.args.files.now (old c.args.place) (new c.args.place) c.in-Err.error c.requires.place c.in-Err.ensures.here in
+    subst (λ (e : SiteError). SiteCause {T = Unit {0}} old new (Err e)) (sym c.refusal.ensures) (refused c.args.place old new c.in-Err.ensures.others (Unit {0}) (Unit {0}) c.in-Err.error c.in-Err.ensures.here.cause why)

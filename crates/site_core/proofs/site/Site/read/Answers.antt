@@ -1,0 +1,47 @@
+use Rattle.std.proofs.Common.{◌≡◌, List, ℕ, Some, min, take, drop, length, ap, sym, ◌∙◌, ◌+◌, ◌-◌, slice_get}
+use Rattle.std.specs.Prelude.{slice_set}
+use Rattle.std.proofs.lemmas.Option.{slice_get-get_or}
+use Rattle.filemap.specs.Rows.{place_of}
+use Rattle.filemap.specs.declared.rows.FileRow.{FileRow}
+use Rattle.member_store.specs.Names.{part_name}
+use Rattle.node_device.specs.File.{bytes_of}
+use Rattle.node_device.specs.Rack.{states_of}
+use Rattle.ckpt_model.specs.declared.event.Event.TheVariants as event
+use Rattle.scr_base.specs.declared.answers.Reply.TheVariants as reply
+use Rattle.scr_base.specs.declared.content.Step.TheVariants as step
+use Rattle.round_core.specs.Seats.{stepped}
+use Rattle.site_core.specs.Choosing.{rows_at}
+use Rattle.site_core.specs.declared.core_state.Core.{Core}
+use Rattle.site_core.proofs.LocalCalls.{front_is}
+use Rattle.site_core.proofs.LocalSteps.{read_told, each_tells, same_states, lead_on, tells_one}
+use Rattle.site_core.proofs.site.Site.read.Goals as goal
+
+pub returns-clause-run : goal.returns-clause-run
+returns-clause-run g c = λ tells first follows.
+    let s = c.args.self.now in
+    let state = g.D.Device.state in
+    let n = c.requires.next in
+    let rank = c.args.rank in
+    let at = c.args.at in
+    let len = c.args.len in
+    let file = c.number_of-file.result in
+    let row = c.in-Some.row.now in
+    let spot = c.in-Some-spot.spot in
+    let after = c.go_past.new.self in
+    let number = c.number_of-file.ensures.number ∙ ap (λ (w : List ℕ). place_of (rows_at s.core rank) w) c.bytes.ensures.value in
+    let row_is : slice_get (rows_at s.core rank) file ≡ Some row = ap (λ (rs : List FileRow). slice_get rs file) (sym c.rows_at.ensures.value) ∙ slice_get-get_or c.rows_at.result.now file row c.in-Some.ensures.lookup.3.0 ∙ ap (λ (r : FileRow). Some r) (sym c.in-Some.ensures.lookup.1) in
+    let there = bytes_of ((states_of state s.bay spot.place).file (part_name spot.which spot.node spot.part)).now in
+    let told : c.get_part.new.into ≡ take (length c.deref_mut.result.now) (drop c.min-from.result there) = c.in_ok-get_part.ensures.bytes (each_tells state s.bay tells spot.place) in
+    let count : length c.deref_mut.result.now ≡ min len (row.len - at) = c.deref_mut.ensures.len ∙ c.in-Ok.ensures.len ∙ c.min-count.ensures ∙ ap (λ (k : ℕ). min len k) c.saturating_sub.ensures in
+    let text : c.of.result ≡ take (min len (row.len - at)) (drop (min at row.len) there) =
+    c.of.ensures ∙ front_is c.in-Ok.bytes.len c.get_part.new.into (drop (length c.get_part.new.into) c.in-Ok.bytes.items) (c.in-Ok.bytes.ok.0 ∙ ap length (sym c.deref_mut.ensures.value) ∙ sym c.get_part.auto.into) ∙ told ∙ ap (λ (k : ℕ). take k (drop c.min-from.result there)) count ∙ ap (λ (k : ℕ). take (min len (row.len - at)) (drop k there)) c.min-from.ensures in
+    lead_on first (let x : Core = record s.core { ranks = slice_set s.core.ranks rank (stepped n.seat) } in x) after.core s.programs after.programs (states_of state s.bay) (states_of state after.bay) after.history.events
+    (c.in_ok-go_past.ensures.core n.seat n.is) c.go_past.ensures.fixed.programs
+    (ap (states_of state) c.go_past.ensures.bay ∙ same_states spot.place (states_of state s.bay) (states_of state c.get_part.new.bay) c.in_ok-get_part.ensures.same)
+    (read_told first s.core s.programs (states_of state s.bay) s.history.events after.history.events rank file c.args.word at len spot row c.of.result
+    c.requires.stage n c.requires.clear c.in-Some-spot.ensures number row_is text follows (c.in_ok-go_past.ensures.events n.seat n.is))
+
+pub returns-clause-told : goal.returns-clause-told
+returns-clause-told g c =
+    let n = c.requires.next in
+    tells_one c.args.self.now.history.events c.go_past.new.self.history.events (event.Local c.args.rank (n.seat.number + 1) (step.Read c.args.word c.args.at c.args.len) (reply.Bytes c.of.result)) (c.in_ok-go_past.ensures.events n.seat n.is)

@@ -1,0 +1,94 @@
+-- What the moves change of a site's memory.
+use Rattle.std.specs.Prelude.{◌≡◌, ◌<◌, ◌+◌, ◌*◌, ◌/◌, ◌%◌, ℕ, IsTrue, List, [], ◌∷◌, ◌++◌, map, replicate, slice_get, slice_set, find, Option, None, Some, option_map, if◌then◌else◌}
+use Rattle.std.specs.List.{list_any}
+use Rattle.scr_base.specs.Sets.{numbers_below}
+use Rattle.scr_base.specs.Words.{is_name}
+use Rattle.scr_base.specs.declared.shape.DataId.{DataId}
+use Rattle.scr_base.specs.declared.shape.Flags.{Flags}
+use Rattle.scr_base.specs.declared.shape.Shape.{Shape}
+use Rattle.scr_base.specs.declared.shape.Config.{Config}
+use Rattle.scr_base.specs.declared.answers.Phase.TheVariants as phase
+use Rattle.filemap.specs.declared.rows.FileRow.{FileRow}
+use Rattle.member_store.specs.declared.part.Part.TheVariants.{File}
+use Rattle.round_core.specs.declared.seat.Seat.{Seat}
+use Rattle.round_core.specs.Seats.{fresh_seat}
+use Rattle.site_core.specs.declared.cache.Cached.{Cached}
+use Rattle.site_core.specs.declared.cache.Manifest.{Manifest}
+use Rattle.site_core.specs.declared.cache.Mark.TheVariants as mark
+use Rattle.site_core.specs.declared.core_state.Core.{Core}
+use Rattle.site_core.specs.declared.core_state.Stage.TheVariants as stage
+use Rattle.site_core.specs.declared.core_moves.Spot.{Spot}
+use Rattle.site_core.specs.Shown.{mends, settled_if}
+use Rattle.site_core.specs.Choosing.{seals, count_one, at_hand}
+
+-- the memory of a run that has made no move
+pub record IsNewCore (shape : Shape) (config : Config) (c : Core) : Type 0 where
+  pub shape_is : c.shape ≡ shape
+  pub config_is : c.config ≡ config
+  pub stage_is : c.stage ≡ stage.Begun
+  pub places : c.places ≡ numbers_below shape.nodes
+  pub phase_is : c.phase ≡ phase.Idle
+  pub offer : c.offer ≡ None
+  pub opened : c.opened ≡ None
+  pub ranks : c.ranks ≡ replicate (shape.nodes * shape.ranks) fresh_seat
+  pub settled : c.settled ≡ 0
+
+-- what doesn't change in a run is the same
+pub record IsSameCore (old new : Core) : Type 0 where
+  pub shape : new.shape ≡ old.shape
+  pub config : new.config ≡ old.config
+  pub places : new.places ≡ old.places
+  pub ranks : new.ranks ≡ old.ranks
+
+-- recovery is over once every dataset that was found is looked after
+abbrev pub recovered : Core → Core
+recovered c = if list_any mends c.kept then c else record c { stage = stage.Serving }
+
+-- a dataset of this run that has no files
+pub record IsOpened (c : Core) (name : List ℕ) (flags : Flags) (m : Manifest) : Type 0 where
+  pub which : m.desc.which ≡ record { id = c.next; run = c.run }
+  pub name_is : m.desc.name ≡ name
+  pub named : IsTrue (is_name m.desc.name)
+  pub flags_are : m.desc.flags ≡ flags
+  pub scheme : m.desc.scheme ≡ c.config.scheme
+  pub size : m.desc.size ≡ c.config.size
+  pub files : m.files ≡ replicate (c.shape.nodes * c.shape.ranks) []
+
+-- the dataset has the site's shape
+pub record HasShape (c : Core) (m : Manifest) : Type 0 where
+  pub nodes : m.desc.nodes ≡ c.shape.nodes
+  pub ranks : m.desc.ranks ≡ c.shape.ranks
+
+-- the manifest with a rank's rows
+abbrev pub with_rows : Manifest → ℕ → List FileRow → Manifest
+with_rows m rank rows = record m { files = slice_set m.files rank rows }
+
+-- the run with this dataset open, and its ranks so
+abbrev pub with_open : Core → Manifest → List Seat → Core
+with_open c m ranks = record c { opened = Some m; ranks = ranks }
+
+-- where a rank's file of this number stands, of the dataset that the ranks' own steps work on
+pub record IsSpot (c : Core) (rank file : ℕ) (spot : Spot) : Type 0 where
+  pub set : Manifest
+  pub hand : at_hand c ≡ Some set
+  pub which : spot.which ≡ set.desc.which
+  pub node : spot.node ≡ rank / c.shape.ranks
+  pub home : slice_get c.places (rank / c.shape.ranks) ≡ Some spot.place
+  pub low : spot.place < 32
+  pub part : spot.part ≡ File (rank % c.shape.ranks) file
+
+-- the identity of the dataset that is being saved
+abbrev pub saved_in : Option Manifest → List Cached → Option DataId
+saved_in None sets = option_map (λ set. set.manifest.desc.which) (find seals sets)
+saved_in (Some m) sets = Some m.desc.which
+
+abbrev pub sealing_one : Manifest → Cached
+sealing_one m = record { manifest = m; mark = mark.Sealing }
+
+-- the open dataset is in cache, and is being sealed
+abbrev pub sealed_core : Core → Manifest → Core
+sealed_core c m = record c { opened = None; kept = c.kept ++ sealing_one m ∷ [] }
+
+-- the dataset is settled, and the run serves again
+abbrev pub settled_core : Core → DataId → Core
+settled_core c which = record c { stage = stage.Serving; kept = map (settled_if which) c.kept; settled = c.settled + count_one which c.kept }

@@ -1,0 +1,193 @@
+// The datasets in cache.
+ghost use Rattle.std.specs.Prelude.{◌≡◌, ◌<◌, ◌++◌, ◌∷◌, [], true, IfOk, OnErr, Ok, Result, map, filter, length, fold, find, option_map, slice_get, slice_set, option_copied, IsSomeAnd};
+ghost use Rattle.std.specs.List.{list_any};
+ghost use Rattle.site_core.specs.Shown.{mends, settled_if, row_of, greatest_id};
+ghost use Rattle.site_core.specs.Choosing.{seals, count_one};
+ghost use Rattle.site_core.specs.Looks.{is_standing, found_member};
+
+use ckpt_model::FoundRow;
+use dataset_desc::Desc;
+use filemap::Filemap;
+use member_store::Member;
+use scr_base::{Bytes, DataId, Flags, Items, Memory};
+use std::alloc::Global;
+use std::marker::Model;
+
+/// How far a dataset in cache has come.
+#[derive(Clone, Copy, Debug, PartialEq, Eq)]
+pub enum Mark {
+    /// Recovery found it, and has yet to look after its members.
+    Mending,
+    /// Its members are being sealed.
+    Sealing,
+    /// Each of its members is whole, sealed and stable.
+    Settled,
+}
+
+/// What a site knows of a dataset: what it is, and the files of all ranks with their lengths.
+#[derive(Debug, Drop)]
+pub struct Manifest {
+    pub desc: Desc,
+    pub files: Filemap,
+}
+
+/// A dataset in cache.
+#[derive(Debug, Drop)]
+pub struct Cached {
+    pub manifest: Manifest,
+    pub mark: Mark,
+}
+
+/// The datasets in cache, by ascending number.
+#[derive(Debug, Drop)]
+pub struct Cache {
+    sets: Vec<Cached>,
+}
+
+impl Model for Cache {
+    ghost use Rattle.std.specs.Prelude.{List};
+    ghost use Rattle.site_core.specs.declared.cache.Cached.{Cached};
+
+    ghost Value = { List Cached };
+
+    ghost view = { λ c. c.sets.items };
+}
+
+impl Cached {
+    ghost use Rattle.std.specs.Prelude.{◌≡◌};
+    ghost use Rattle.ckpt_model.specs.Dataset.{is_checkpoint_flag};
+
+    /// Whether it is a checkpoint.
+    pub(crate) fn is_checkpoint(&self) -> bool
+        ensures { result ≡ is_checkpoint_flag self.now.manifest.desc.flags }
+    {
+        match self.manifest.desc.flags {
+            Flags::Ckpt | Flags::Both => true,
+            Flags::Output => false,
+        }
+    }
+}
+
+impl Cache {
+    pub fn new(alloc: Global) -> Cache
+        ensures { result ≡ [] }
+    {
+        Cache {
+            sets: Vec::new(alloc),
+        }
+    }
+
+    pub fn list(&self) -> &[Cached]
+        ensures { result.now ≡ self.now }
+    {
+        self.sets.as_slice()
+    }
+
+    /// The datasets of these members, of which each node has one, as recovery finds them: those that are whole and sealed.
+    pub(crate) fn found(alloc: Global, members: Vec<Member>) -> Result<Cache, Memory>
+        ensures { IfOk result (λ cache. cache ≡ map found_member (filter is_standing members.items)) }
+    {
+        let mut sets = Vec::new(alloc);
+        for member in members {
+            if member.whole && member.sealed {
+                sets.push(Cached {
+                    manifest: Manifest {
+                        desc: member.desc,
+                        files: member.files,
+                    },
+                    mark: Mark::Mending,
+                })?;
+            }
+        }
+        Ok(Cache { sets })
+    }
+
+    /// What a look tells of them: nothing of them is lost.
+    pub(crate) fn rows(&self, alloc: Global) -> Result<Items<FoundRow>, Memory>
+        ensures { IfOk result (λ rows. rows ≡ map row_of self.now) }
+    {
+        let mut rows = Vec::new(alloc);
+        for set in self.list() {
+            rows.push(FoundRow {
+                which: set.manifest.desc.which,
+                lost: Bytes::of(Vec::new(alloc)),
+            })?;
+        }
+        Ok(Items::of(rows))
+    }
+
+    /// The greatest number, 0 for none.
+    pub(crate) fn greatest(&self) -> u32
+        ensures { result ≡ greatest_id self.now }
+    {
+        let mut greatest = 0;
+        for set in self.list() {
+            greatest = set.manifest.desc.which.id.max(greatest);
+        }
+        greatest
+    }
+
+    /// Makes room for one dataset more, so that the next `add` takes no memory.
+    pub fn reserve(&mut self) -> Result<(), Memory>
+        ensures { self.new ≡ self.old }
+    {
+        self.sets.reserve(1)?;
+        Ok(())
+    }
+
+    /// Adds a dataset behind the others. After want of memory all is as before.
+    pub fn add(&mut self, set: Cached) -> Result<(), Memory>
+        ensures added { result ≡ Ok tt → self.new ≡ self.old ++ set ∷ [] }
+        ensures err { OnErr result (self.new ≡ self.old) }
+    {
+        self.sets.push(set)?;
+        Ok(())
+    }
+
+    /// The first that recovery has yet to look after.
+    pub(crate) fn to_mend(&self) -> Option<DataId>
+        ensures { result ≡ option_map (λ set. set.manifest.desc.which) (find mends self.now) }
+    {
+        for set in self.list() {
+            if set.mark == Mark::Mending {
+                return Some(set.manifest.desc.which);
+            }
+        }
+        None
+    }
+
+    /// The one that is being sealed.
+    pub(crate) fn sealing(&self) -> Option<DataId>
+        ensures { result ≡ option_map (λ set. set.manifest.desc.which) (find seals self.now) }
+    {
+        for set in self.list() {
+            if set.mark == Mark::Sealing {
+                return Some(set.manifest.desc.which);
+            }
+        }
+        None
+    }
+
+    /// The dataset is settled.
+    pub(crate) fn settle(&mut self, which: DataId)
+        ensures { self.new ≡ map (settled_if which) self.old }
+    {
+        for set in self.sets.iter_mut() {
+            if set.manifest.desc.which == which {
+                set.mark = Mark::Settled;
+            }
+        }
+    }
+
+    /// How many checkpoints have this identity.
+    pub(crate) fn count(&self, which: DataId) -> u32
+        ensures { result ≡ count_one which self.now }
+    {
+        for set in self.list() {
+            if set.manifest.desc.which == which && set.is_checkpoint() {
+                return 1;
+            }
+        }
+        0
+    }
+}

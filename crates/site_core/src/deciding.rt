@@ -1,0 +1,254 @@
+// How a complete round is decided.
+ghost use Rattle.std.specs.Prelude.{◌≡◌, ◌+◌, ◌*◌, ◌<◌, ◌≤◌, ◌^◌, true, false, None, Some, length, map, IfOk, IfSome, OnOk, OnErr};
+ghost use Rattle.node_device.specs.Rack.{states_of};
+ghost use Rattle.scr_base.specs.declared.content.Step.TheVariants as step;
+ghost use Rattle.round_core.specs.Seats.{is_complete};
+ghost use Rattle.ckpt_model.specs.Answers.{is_of_kind};
+ghost use Rattle.site_core.specs.Causes.{SiteCause};
+ghost use Rattle.site_core.specs.Follows.{Keeps, TellsOne, IsSameRun, IsClearRound, IsRefusedRound, MayDecide};
+
+use crate::core_state::Stage;
+use crate::error::SiteError;
+use crate::site::Site;
+use crate::turn::{Turn, Why};
+use ckpt_model::{Event, Kind, StopCause};
+use node_device::Device;
+use scr_base::{Copies, DataId, Flags, Phase, Refusal, Reply, Step, Word};
+
+impl<D: Device> Site<D> {
+    /// A complete round is decided, or has to wait.
+    pub(crate) fn decide(&mut self) -> Result<Turn, SiteError>
+        requires stage { self.old.core.stage ≡ Stage.Serving }
+        requires complete { is_complete self.old.core.ranks ≡ true }
+        ensures run { OnOk result (Keeps D.state self.old self.new) }
+        ensures told { OnOk result (TellsOne self.old.history.events self.new.history.events) }
+        ensures refused { OnErr result (self.new.history.events ≡ self.old.history.events) }
+        ensures fixed { IsSameRun self.old self.new }
+        ensures cause { SiteCause (states_of D.state self.old.bay) (states_of D.state self.new.bay) result }
+    {
+        let Some(first) = self.core.ranks.call(0) else {
+            return Err(SiteError::Memory);
+        };
+        let call = first.copy(self.alloc)?;
+        let verdict = self.core.verdict(self.alloc, &call)?;
+        match verdict {
+            Some(refusal) => self.refuse(&call, refusal),
+            None => self.answer(call),
+        }
+    }
+
+    /// The round is decided so: every rank has the answer due.
+    fn tell_round(
+        &mut self,
+        kind: Kind,
+        answer: Reply,
+        phase: Phase,
+        offer: Option<DataId>,
+    ) -> Result<Turn, SiteError>
+        requires stage { self.old.core.stage ≡ Stage.Serving }
+        requires steps { MayDecide D.state self.old kind answer phase offer }
+        ensures run { OnOk result (Keeps D.state self.old self.new) }
+        ensures told { OnOk result (TellsOne self.old.history.events self.new.history.events) }
+        ensures refused { OnErr result (self.new.history.events ≡ self.old.history.events) }
+        ensures fixed { IsSameRun self.old self.new }
+        ensures cause { SiteCause (states_of D.state self.old.bay) (states_of D.state self.new.bay) result }
+    {
+        self.history.reserve(1)?;
+        self.core.ranks.decide(self.alloc, &answer)?;
+        self.history.push(Event::Decided { kind, answer })?;
+        self.core.phase = phase;
+        self.core.offer = offer;
+        Ok(Turn::Moved)
+    }
+
+    /// The round is refused.
+    fn refuse(&mut self, call: &Step, refusal: Refusal) -> Result<Turn, SiteError>
+        requires stage { self.old.core.stage ≡ Stage.Serving }
+        requires round { IsRefusedRound self.old.core call.now refusal }
+        ensures run { OnOk result (Keeps D.state self.old self.new) }
+        ensures told { OnOk result (TellsOne self.old.history.events self.new.history.events) }
+        ensures refused { OnErr result (self.new.history.events ≡ self.old.history.events) }
+        ensures fixed { IsSameRun self.old self.new }
+        ensures cause { SiteCause (states_of D.state self.old.bay) (states_of D.state self.new.bay) result }
+    {
+        match kind_of(call) {
+            Some(kind) => self.tell_round(
+                kind,
+                Reply::Refused { refusal },
+                self.core.phase,
+                self.core.offer,
+            ),
+            None => Err(SiteError::Memory),
+        }
+    }
+
+    /// A round that nothing speaks against is decided, or has to wait.
+    fn answer(&mut self, call: Step) -> Result<Turn, SiteError>
+        requires stage { self.old.core.stage ≡ Stage.Serving }
+        requires round { IsClearRound self.old.core call }
+        ensures run { OnOk result (Keeps D.state self.old self.new) }
+        ensures told { OnOk result (TellsOne self.old.history.events self.new.history.events) }
+        ensures refused { OnErr result (self.new.history.events ≡ self.old.history.events) }
+        ensures fixed { IsSameRun self.old self.new }
+        ensures cause { SiteCause (states_of D.state self.old.bay) (states_of D.state self.new.bay) result }
+    {
+        match call {
+            Step::Start { name, flags } => self.start(name, flags),
+            Step::Complete { valid } => self.complete(valid),
+            Step::Have => self.have(),
+            Step::Restart => self.restart(),
+            Step::Restarted { valid } => self.restarted(valid),
+            Step::End => self.end(),
+            _ => Err(SiteError::Memory),
+        }
+    }
+
+    /// A dataset is begun.
+    fn start(&mut self, name: Word, flags: Flags) -> Result<Turn, SiteError>
+        requires stage { self.old.core.stage ≡ Stage.Serving }
+        requires round { IsClearRound self.old.core (step.Start name flags) }
+        ensures run { OnOk result (Keeps D.state self.old self.new) }
+        ensures told { OnOk result (TellsOne self.old.history.events self.new.history.events) }
+        ensures refused { OnErr result (self.new.history.events ≡ self.old.history.events) }
+        ensures fixed { IsSameRun self.old self.new }
+        ensures cause { SiteCause (states_of D.state self.old.bay) (states_of D.state self.new.bay) result }
+    {
+        if self.core.is_crowded() {
+            return Err(SiteError::Memory);
+        }
+        let Some(which) = self.core.next_id() else {
+            return Err(SiteError::Memory);
+        };
+        let manifest = self.core.fresh(self.alloc, which, &name, flags)?;
+        let answer = Reply::Started { which };
+        self.history.reserve(1)?;
+        self.core.ranks.decide(self.alloc, &answer)?;
+        self.history.push(Event::Decided {
+            kind: Kind::Start,
+            answer,
+        })?;
+        self.core.open(manifest);
+        Ok(Turn::Moved)
+    }
+
+    /// The dataset is kept once it is sealed on every node.
+    fn complete(&mut self, valid: bool) -> Result<Turn, SiteError>
+        requires stage { self.old.core.stage ≡ Stage.Serving }
+        requires round { IsClearRound self.old.core (step.Complete valid) }
+        ensures run { OnOk result (Keeps D.state self.old self.new) }
+        ensures told { OnOk result (TellsOne self.old.history.events self.new.history.events) }
+        ensures refused { OnErr result (self.new.history.events ≡ self.old.history.events) }
+        ensures fixed { IsSameRun self.old self.new }
+        ensures cause { SiteCause (states_of D.state self.old.bay) (states_of D.state self.new.bay) result }
+    {
+        if !self.core.ranks.is_valid() {
+            return Err(SiteError::Memory);
+        }
+        match &self.core.opened {
+            Some(_) => Ok(Turn::NotYet {
+                why: Why::Encode {
+                    left: 6 * self.core.shape.nodes as u32,
+                },
+            }),
+            None => self.tell_round(Kind::Complete, Reply::Kept, Phase::Idle, self.core.offer),
+        }
+    }
+
+    /// The newest checkpoint is offered, or there is none.
+    fn have(&mut self) -> Result<Turn, SiteError>
+        requires stage { self.old.core.stage ≡ Stage.Serving }
+        requires round { IsClearRound self.old.core step.Have }
+        ensures run { OnOk result (Keeps D.state self.old self.new) }
+        ensures told { OnOk result (TellsOne self.old.history.events self.new.history.events) }
+        ensures refused { OnErr result (self.new.history.events ≡ self.old.history.events) }
+        ensures fixed { IsSameRun self.old self.new }
+        ensures cause { SiteCause (states_of D.state self.old.bay) (states_of D.state self.new.bay) result }
+    {
+        match self.core.kept.newest() {
+            Some(best) => {
+                let which = best.desc.which;
+                let name = best.desc.name.copy(self.alloc)?;
+                self.tell_round(
+                    Kind::Have,
+                    Reply::Offer { which, name },
+                    Phase::Offered,
+                    Some(which),
+                )
+            }
+            None => self.tell_round(Kind::Have, Reply::NoneLeft, Phase::Idle, None),
+        }
+    }
+
+    /// The offered dataset is taken.
+    fn restart(&mut self) -> Result<Turn, SiteError>
+        requires stage { self.old.core.stage ≡ Stage.Serving }
+        requires round { IsClearRound self.old.core step.Restart }
+        ensures run { OnOk result (Keeps D.state self.old self.new) }
+        ensures told { OnOk result (TellsOne self.old.history.events self.new.history.events) }
+        ensures refused { OnErr result (self.new.history.events ≡ self.old.history.events) }
+        ensures fixed { IsSameRun self.old self.new }
+        ensures cause { SiteCause (states_of D.state self.old.bay) (states_of D.state self.new.bay) result }
+    {
+        let Some(which) = self.core.offer else {
+            return Err(SiteError::Memory);
+        };
+        if !self.core.kept.has_settled(which) {
+            return Err(SiteError::Memory);
+        }
+        self.tell_round(Kind::Restart, Reply::Done, Phase::Restart, self.core.offer)
+    }
+
+    /// Every rank has what it needs of the dataset.
+    fn restarted(&mut self, valid: bool) -> Result<Turn, SiteError>
+        requires stage { self.old.core.stage ≡ Stage.Serving }
+        requires round { IsClearRound self.old.core (step.Restarted valid) }
+        ensures run { OnOk result (Keeps D.state self.old self.new) }
+        ensures told { OnOk result (TellsOne self.old.history.events self.new.history.events) }
+        ensures refused { OnErr result (self.new.history.events ≡ self.old.history.events) }
+        ensures fixed { IsSameRun self.old self.new }
+        ensures cause { SiteCause (states_of D.state self.old.bay) (states_of D.state self.new.bay) result }
+    {
+        if !self.core.ranks.is_valid() {
+            return Err(SiteError::Memory);
+        }
+        self.tell_round(Kind::Restarted, Reply::Done, Phase::Idle, self.core.offer)
+    }
+
+    /// The run is over.
+    fn end(&mut self) -> Result<Turn, SiteError>
+        requires stage { self.old.core.stage ≡ Stage.Serving }
+        requires round { IsClearRound self.old.core step.End }
+        ensures run { OnOk result (Keeps D.state self.old self.new) }
+        ensures told { OnOk result (TellsOne self.old.history.events self.new.history.events) }
+        ensures refused { OnErr result (self.new.history.events ≡ self.old.history.events) }
+        ensures fixed { IsSameRun self.old self.new }
+        ensures cause { SiteCause (states_of D.state self.old.bay) (states_of D.state self.new.bay) result }
+    {
+        if !self.core.all_ended() {
+            return Err(SiteError::Memory);
+        }
+        self.history.push(Event::Stop {
+            cause: StopCause::Ended,
+        })?;
+        self.core.stage = Stage::Stopped;
+        Ok(Turn::Moved)
+    }
+}
+
+/// The kind of a round, and none for a rank's own step.
+fn kind_of(step: &Step) -> Option<Kind>
+    ensures { IfSome result (λ kind. is_of_kind kind step.now ≡ true) }
+{
+    match step {
+        Step::Need => Some(Kind::Need),
+        Step::Start { .. } => Some(Kind::Start),
+        Step::Complete { .. } => Some(Kind::Complete),
+        Step::Have => Some(Kind::Have),
+        Step::Restart => Some(Kind::Restart),
+        Step::Restarted { .. } => Some(Kind::Restarted),
+        Step::Exit => Some(Kind::Exit),
+        Step::Finalize => Some(Kind::Finalize),
+        Step::End => Some(Kind::End),
+        _ => None,
+    }
+}
