@@ -18,7 +18,7 @@ use Rattle.member_store.specs.declared.part.Part.{Part}
 use Rattle.member_store.specs.declared.gates.MemberGate.{MemberGate}
 use Rattle.member_store.specs.declared.gates.MemberGate.TheVariants as gates
 use Rattle.site_core.specs.Calls.{Recorded, Turned}
-use Rattle.site_core.specs.Causes.{SiteCause, IsCalm, PassesAt, refusal_of}
+use Rattle.site_core.specs.Causes.{CallCause, IsCalm, PassesAt, trouble_of}
 
 -- a call left the lengths and the capacity as they were
 pub record KeepsUse (old new : DeviceState) : Type 0 where
@@ -55,7 +55,7 @@ module _ (place : ℕ) (old new : ℕ → DeviceState) (others : (q : ℕ) → q
   ]
 
   -- the site refuses as the device did
-  pub refused : (T U : Type 0) (error : DevError) → HasDeviceCause {T = T} (old place) (new place) (Err error) → RefusedFor place error (old place) (new place) → SiteCause {T = U} old new (Err (refusal_of place (new place) error))
+  pub refused : (T U : Type 0) (error : DevError) → HasDeviceCause {T = T} (old place) (new place) (Err error) → RefusedFor place error (old place) (new place) → CallCause {T = U} old new (Err (trouble_of place (new place) error))
   refused T U device.Failed cause why = record { now = refl; rose = cause }
   refused T U device.Full cause why = record { used_is = why.kept.used; capacity_is = why.kept.capacity; passes = why.passes; calm = calm_at cause }
   refused T U device.NoFile cause why = calm_at cause

@@ -11,7 +11,9 @@ pub mod Best
 pub mod Rounds
 pub mod Serving
 pub mod Called
+pub mod Asked
 pub mod Sounds
+pub mod RefusedCalls
 pub mod Works
 pub mod Starting
 pub mod Files
@@ -22,6 +24,9 @@ pub mod Seals
 pub mod Names
 pub mod Frames
 pub mod Told
+pub mod Losses
+pub mod Removing
+pub mod DroppedRounds
 pub mod Puts
 pub mod LocalMoves
 pub mod LocalCalls
@@ -33,3 +38,7 @@ pub mod SaveEnds
 pub mod Scanned
 pub mod Recovering
 pub mod Ending
+pub mod Cuts
+pub mod Refusals
+pub mod Turns
+pub mod LocalRefusals

@@ -45,7 +45,7 @@ use Rattle.site_core.specs.Shown.{Contents, running, setup_of, mends, served}
 use Rattle.site_core.specs.Choosing.{local_verdict_of, rows_at, rows_in, at_hand, hand_in, set_in}
 use Rattle.site_core.specs.Calls.{Same, Written, Tells, TellsAll}
 use Rattle.site_core.specs.Cores.{IsSpot, with_rows, with_open}
-use Rattle.site_core.specs.Follows.{IsNextLocal, TellsOne}
+use Rattle.site_core.specs.Follows.{IsNextLocal}
 use Rattle.site_core.specs.Stored.{cells_of, contents_of, place_of_rank, file_name, FileStands, IsAmong, IsKnown}
 use Rattle.site_core.specs.Holds.{Leads, WorkIs}
 use Rattle.site_core.proofs.Told.{is_up, led, serves}
@@ -278,9 +278,6 @@ lead_on first c d programs programs' states states' events core prog bay l =
     subst (λ (x : Core). Leads first x programs' states' events) (sym core)
     (subst (λ (ps : List (List Step)). Leads first c ps states' events) (sym prog)
     (subst (λ (st : ℕ → DeviceState). Leads first c programs st events) (sym bay) l))
-
-pub tells_one : (old new : List Event) (e : Event) → new ≡ old ++ e ∷ [] → TellsOne old new
-tells_one old new e is = record { told = e ∷ []; few = omega arith; is = is }
 
 -- a call that changes nothing leaves every device as it was
 pub same_states : (place : ℕ) (old new : ℕ → DeviceState) → OnlyAt place Same old new → new ≡ old

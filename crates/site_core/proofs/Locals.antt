@@ -67,6 +67,19 @@ refuses_local c bytes rank seat call r at free goes up local is no_fault =
     ∙ ap (λ (v : Option Refusal). is_answer (unwrap_or (option_map (λ x. Some (reply.Refused x)) v) (local_done s m rank call)) a) (local_verdict_is c bytes rank call ∙ is) ∙ reply-same a)
     refl
 
+-- nothing speaks against the step, and a device refuses it
+pub faults_local : (c : Core) (bytes : Contents) (rank : ℕ) (seat : Seat) (call : Step) (r : Refusal) → slice_get c.ranks rank ≡ Some seat → is_free seat.doing ≡ true → seat.ended ≡ false → list_any mends c.kept ≡ false → is_local call ≡ true
+    → local_verdict_of c rank call ≡ None → is_fault (reply.Refused r) ≡ true → may_fault_local call (reply.Refused r) ≡ true
+    → StepsTo (setup_of c) (running bytes c) (event.Local rank (seat.number + 1) call (reply.Refused r)) (running bytes (record c { ranks = slice_set c.ranks rank (stepped seat) }))
+faults_local c bytes rank seat call r at free goes up local clear fault may =
+    let s = setup_of c in
+    let m = running bytes c in
+    let a = reply.Refused r in
+    steps c bytes rank seat call a m at free goes up local
+    (ap (λ (b : Bool). if b then is_none (local_verdict m rank call) && may_fault_local call a else is_answer (local_answer s m rank call) a) fault
+    ∙ both _ _ (ap is_none (local_verdict_is c bytes rank call ∙ clear)) may)
+    refl
+
 -- nothing speaks against the step, and this is its answer
 done : (c : Core) (bytes : Contents) (rank : ℕ) (seat : Seat) (call : Step) (a : Reply) (o : Option Dataset) → slice_get c.ranks rank ≡ Some seat → is_free seat.doing ≡ true → seat.ended ≡ false → list_any mends c.kept ≡ false → is_local call ≡ true
     → local_verdict_of c rank call ≡ None → is_refused a ≡ false → local_done (setup_of c) (running bytes c) rank call ≡ Some a → option_map (dataset_after rank call) (option_map (set_of (setup_of c) bytes) c.opened) ≡ o

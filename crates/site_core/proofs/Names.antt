@@ -1,12 +1,12 @@
 -- The names of members' files tell what they are of.
-use Rattle.std.proofs.Common.{◌≡◌, ◌≢◌, ℕ, ◌<◌, ◌^◌, List, [], ◌∷◌, ◌++◌, refl, sym, ap, ◌∙◌, subst, append_assoc, arith, codes}
+use Rattle.std.proofs.Common.{◌≡◌, ◌≢◌, inl, inr, ℕ, ◌<◌, ◌^◌, List, [], ◌∷◌, ◌++◌, refl, sym, ap, ◌∙◌, subst, append_assoc, arith, codes}
 use Rattle.std.specs.Prelude.{decimal}
 use Rattle.std.proofs.lemmas.List.{append_cancel_left}
 use Rattle.std.proofs.lemmas.Fmt.{decimal_injective, decimal_is_IsNumeral}
 use Rattle.std.specs.Str.Parse.{AllDigits}
 use Rattle.std.specs.Char.{digit_value}
 use Rattle.scr_base.specs.declared.shape.DataId.{DataId}
-use Rattle.member_store.specs.Names.{record_name, part_name, member_stem, IsPlace}
+use Rattle.member_store.specs.Names.{record_name, part_name, part_mark, member_stem, IsPlace, IsNameOf}
 use Rattle.member_store.specs.declared.part.Part.TheVariants.{File}
 
 -- no byte of these is a dot
@@ -103,3 +103,21 @@ parts-same which other node place local locals file files w o sl sls sf sfs e =
     let s = same which other node place (codes "f." ++ decimal local ++ 46 ∷ decimal file) (codes "f." ++ decimal locals ++ 46 ∷ decimal files) w o e in
     let t = numbers-split local locals (decimal file) (decimal files) (narrow local sl) (narrow locals sls) (append_cancel_left (codes "f.") (decimal local ++ 46 ∷ decimal file) (decimal locals ++ 46 ∷ decimal files) s.tail_is) in
     record { id = s.id; run = s.run; node_is = s.node_is; local_is = t.0; file_is = decimal_injective file files (narrow file sf) (narrow files sfs) t.1 }
+
+-- a name of a member's file, by what stands behind its stem
+name_tail : (which : DataId) (node : ℕ) (name : List ℕ) → IsNameOf which node name → (tail : List ℕ) × (name ≡ member_stem which node ++ 46 ∷ tail)
+name_tail which node name (inl is) = (109 ∷ [], is)
+name_tail which node name (inr part) = (part_mark part.0, part.2)
+
+-- one member, by a name of a file of it
+pub record AreMembersSame (which : DataId) (node : ℕ) (other : DataId) (place : ℕ) : Type 0 where
+  pub id : which.id ≡ other.id
+  pub run : which.run ≡ other.run
+  pub node_is : node ≡ place
+
+pub members-same : (which other : DataId) (node place : ℕ) (name : List ℕ) → IsPlace which node → IsPlace other place → IsNameOf which node name → IsNameOf other place name → AreMembersSame which node other place
+members-same which other node place name w o a b =
+    let x = name_tail which node name a in
+    let y = name_tail other place name b in
+    let s = same which other node place x.0 y.0 w o (sym x.1 ∙ y.1) in
+    record { id = s.id; run = s.run; node_is = s.node_is }

@@ -16,8 +16,8 @@ use Rattle.site_core.specs.declared.cache.Cached.{Cached}
 use Rattle.site_core.specs.declared.cache.Manifest.{Manifest}
 use Rattle.site_core.specs.declared.core_state.Core.{Core}
 use Rattle.site_core.specs.declared.core_state.Stage.TheVariants as stage
-use Rattle.site_core.specs.Shown.{setup_of, mends, row_of, greatest_id, settled_if}
-use Rattle.site_core.specs.Cores.{recovered}
+use Rattle.site_core.specs.Shown.{setup_of, mends, row_of, settled_if}
+use Rattle.site_core.specs.Cores.{recovered, seen_core}
 use Rattle.site_core.specs.Looks.{is_standing, found_member}
 use Rattle.site_core.specs.Holds.{Leads, settled_set}
 use Rattle.site_core.proofs.Puts.{place_is}
@@ -63,9 +63,6 @@ rows_same : (sets : List Manifest) → map row_of (map found_set sets) ≡ map r
 rows_same sets = map-map row_of found_set (λ m. row_of (settled_set m)) (λ m. refl) sets ∙ sym (map-map row_of settled_set (λ m. row_of (settled_set m)) (λ m. refl) sets)
 
 -- the run with what it found
-abbrev pub seen_core : Core → List Cached → Core
-seen_core c kept = record c { stage = stage.Mending; kept = kept; next = greatest_id kept + 1 }
-
 pub seen : (first : Machine) (c : Core) (programs : List (List Step)) (states : ℕ → DeviceState) (events events' : List Event) (place : ℕ) (members : List Member) (kept : List Cached) → c.stage ≡ stage.Looking → slice_get c.places 0 ≡ Some place
     → AreMembers c.shape (states place) members → kept ≡ map found_member (filter is_standing members) → events' ≡ events ++ event.Found (map row_of kept) [] ∷ [] → Leads first c programs states events
     → Leads first (recovered (seen_core c kept)) programs states events'

@@ -1,7 +1,7 @@
 -- A rank calls, a round is decided, and a rank takes its reply, over the devices as they are.
-use Rattle.std.proofs.Common.{◌≡◌, ◌≢◌, ◌⊎◌, inl, inr, ℕ, zero, suc, ◌+◌, ◌*◌, ◌<◌, ◌≤◌, ◌^◌, Bool, true, false, List, [], ◌∷◌, ◌++◌, length, map, Option, Some, None, refl, sym, ap, ◌∙◌, subst, slice_get, slice_set, arith, IfSome}
+use Rattle.std.proofs.Common.{◌≡◌, ◌≢◌, ℕ, Bool, true, false, List, [], ◌∷◌, ◌++◌, length, map, Option, Some, None, refl, sym, ap, ◌∙◌, subst, slice_get, slice_set, IfSome}
 use Rattle.std.specs.Prelude.{IsSomeAnd, not, option_and_then}
-use Rattle.std.specs.List.{list_any, list_all}
+use Rattle.std.specs.List.{list_any}
 use Rattle.std.proofs.lemmas.List.{length-map, length-set}
 use Rattle.scr_base.specs.declared.content.Step.{Step}
 use Rattle.scr_base.specs.declared.content.Step.TheVariants as step
@@ -10,7 +10,6 @@ use Rattle.scr_base.specs.declared.answers.Phase.TheVariants as phase
 use Rattle.scr_base.specs.declared.answers.Refusal.{Refusal}
 use Rattle.scr_base.specs.declared.answers.Refusal.TheVariants as refusal
 use Rattle.scr_base.specs.declared.answers.Reply.{Reply}
-use Rattle.scr_base.specs.declared.answers.Reply.TheVariants as reply
 use Rattle.scr_base.specs.declared.shape.DataId.{DataId}
 use Rattle.scr_base.specs.Calls.{or_else, refuse_if, judged, allows}
 use Rattle.node_device.specs.DeviceState.{DeviceState}
@@ -26,12 +25,12 @@ use Rattle.site_core.specs.declared.cache.Manifest.{Manifest}
 use Rattle.site_core.specs.declared.core_state.Core.{Core}
 use Rattle.site_core.specs.declared.core_state.Stage.{Stage}
 use Rattle.site_core.specs.declared.core_state.Stage.TheVariants as stage
-use Rattle.site_core.specs.Shown.{Contents, running, setup_of, mends, served}
+use Rattle.site_core.specs.Shown.{running, setup_of, mends, served}
 use Rattle.site_core.specs.Choosing.{seals}
 use Rattle.site_core.specs.Stored.{cells_of, contents_of}
 use Rattle.site_core.specs.Holds.{Leads, WorkIs}
 use Rattle.site_core.specs.Follows.{IsNextCall, IsClearRound}
-use Rattle.site_core.proofs.Told.{is_up, IsLed, led, serves}
+use Rattle.site_core.proofs.Told.{is_up, led, serves}
 use Rattle.site_core.proofs.Gates.{calls, replies}
 
 pub some_same : {X : Type 0} (x y : X) → Some x ≡ Some y → x ≡ y

@@ -36,3 +36,11 @@ same_states place old new done = fun_ext (λ p. pick p (cases_eq p place)) where
 pub on_ok : {T E : Type 0} (r : Result T E) {P Q : Type 0} → (P → Q) → OnOk r P → OnOk r Q
 on_ok (Ok v) f p = f p
 on_ok (Err e) f p = p
+
+pub on_ok2 : {T E : Type 0} (r : Result T E) {P Q S : Type 0} → (P → Q → S) → OnOk r P → OnOk r Q → OnOk r S
+on_ok2 (Ok v) f p q = f p q
+on_ok2 (Err e) f p q = p
+
+pub on_ok3 : {T E : Type 0} (r : Result T E) {P Q R S : Type 0} → (P → Q → R → S) → OnOk r P → OnOk r Q → OnOk r R → OnOk r S
+on_ok3 (Ok v) f p q t = f p q t
+on_ok3 (Err e) f p q t = p

@@ -1,5 +1,9 @@
 -- What single calls on a bay do to one device, as the moves of a site use them.
-use Rattle.std.specs.Prelude.{◌≡◌, ◌≤◌, ◌<◌, ℕ, true, List, length, Some, set}
+use Rattle.std.specs.Prelude.{◌≡◌, ◌≢◌, ◌≤◌, ◌<◌, ◌↔◌, ℕ, Bool, true, false, List, length, Option, Some, set}
+use Rattle.scr_base.specs.Stages.{left}
+use Rattle.scr_base.specs.declared.change.Change.{Change}
+use Rattle.scr_base.specs.declared.shape.DataId.{DataId}
+use Rattle.member_store.specs.Calls.{RemovesAtMost, HasNoFile, IsDropStage}
 use Rattle.node_device.specs.File.{written, bytes_of, IsAtRest}
 use Rattle.node_device.specs.DeviceState.{DeviceState, ChangesOnly, ReadsAlike}
 use Rattle.gated_record.specs.Record.{HasBody, HasShutGates, open_gate_byte}
@@ -36,3 +40,20 @@ pub record Recorded (name body : List ℕ) (old new : DeviceState) : Type 0 wher
 pub record Turned (name : List ℕ) (gate : ℕ) (old new : DeviceState) : Type 0 where
   pub now : old.tells ≡ true → gate < length (bytes_of (old.file name).now) → (new.file name).now ≡ Some (set (bytes_of (old.file name).now) gate open_gate_byte)
   pub only : ChangesOnly name old new
+
+-- a call on one file was refused: what reads give is the same, and no other file is less at rest
+pub record Refused (name : List ℕ) (old new : DeviceState) : Type 0 where
+  pub alike : ReadsAlike old new
+  pub others : (q : List ℕ) → q ≢ name → IsAtRest (old.file q) → IsAtRest (new.file q)
+
+-- what reads give is the same, and no file is less at rest
+pub record KeptAlike (old new : DeviceState) : Type 0 where
+  pub alike : ReadsAlike old new
+  pub at_rest : (q : List ℕ) → IsAtRest (old.file q) → IsAtRest (new.file q)
+
+-- one file of a member was removed, at most; where the removal knows the files that are left, they are fewer, and none at its end
+pub record FileDropped (which : DataId) (node : ℕ) (over : Bool) (before after : Option (List Change)) (old new : DeviceState) : Type 0 where
+  pub at_most : RemovesAtMost which node old new
+  pub none_left : IsDropStage which node old before → (over ≡ true) ↔ HasNoFile which node new
+  pub goes : IsDropStage which node old before → IsDropStage which node new after
+  pub fewer : over ≡ false → left after < left before

@@ -1,5 +1,7 @@
 -- Why a site refuses.
-use Rattle.std.specs.Prelude.{◌≡◌, ◌⊎◌, ◌<◌, ◌≤◌, ◌+◌, ℕ, List, [], length, codes, Result, Err}
+use Rattle.std.specs.Prelude.{◌≡◌, ◌⊎◌, ◌<◌, ◌≤◌, ◌+◌, ℕ, Bool, true, false, List, [], length, codes, Result, Err, Option, None, Some}
+use Rattle.scr_base.specs.declared.answers.Refusal.{Refusal}
+use Rattle.scr_base.specs.declared.answers.Refusal.TheVariants as refusal
 use Rattle.scr_base.specs.Causes.{Rose}
 use Rattle.scr_base.specs.declared.shape.DataId.{DataId}
 use Rattle.node_device.specs.DeviceState.{DeviceState, used_of}
@@ -14,8 +16,10 @@ use Rattle.filemap.specs.declared.rows.FileRow.{FileRow}
 use Rattle.member_store.specs.Names.{record_name, part_name}
 use Rattle.member_store.specs.Members.{member_body}
 use Rattle.member_store.specs.declared.part.Part.{Part}
-use Rattle.site_core.specs.declared.error.SiteError.{SiteError}
-use Rattle.site_core.specs.declared.error.SiteError.TheVariants as error
+use Rattle.ckpt_model.specs.declared.event.StopCause.{StopCause}
+use Rattle.ckpt_model.specs.declared.event.StopCause.TheVariants as stops
+use Rattle.site_core.specs.declared.error.Trouble.{Trouble}
+use Rattle.site_core.specs.declared.error.Trouble.TheVariants as error
 
 -- the device's count of faults rose to this
 pub record IsFault (old new : ℕ → DeviceState) (node count : ℕ) : Type 0 where
@@ -64,13 +68,35 @@ pub record IsFull (old new : ℕ → DeviceState) (node used capacity : ℕ) : T
   pub calm : IsCalm old new
 
 -- a fault only where that count rose, a full device only where a write passes, and no count rose otherwise
-abbrev pub SiteCause : {T : Type 0} → (ℕ → DeviceState) → (ℕ → DeviceState) → Result T SiteError → Type 0
-SiteCause old new (Err (error.Fault node count)) = IsFault old new node count
-SiteCause old new (Err (error.Full node used capacity)) = IsFull old new node used capacity
-SiteCause old new _ = IsCalm old new
+abbrev pub CallCause : {T : Type 0} → (ℕ → DeviceState) → (ℕ → DeviceState) → Result T Trouble → Type 0
+CallCause old new (Err (error.Fault node count)) = IsFault old new node count
+CallCause old new (Err (error.Full node used capacity)) = IsFull old new node used capacity
+CallCause old new _ = IsCalm old new
 
 -- what a site answers after a call at this place was refused so
-abbrev pub refusal_of : ℕ → DeviceState → DevError → SiteError
-refusal_of place d device.Failed = error.Fault place d.faults
-refusal_of place d device.Full = error.Full place (used_of d) d.capacity
-refusal_of place d _ = error.Memory
+abbrev pub trouble_of : ℕ → DeviceState → DevError → Trouble
+trouble_of place d device.Failed = error.Fault place d.faults
+trouble_of place d device.Full = error.Full place (used_of d) d.capacity
+trouble_of place d _ = error.Memory
+
+-- what is told of a call that was refused; want of memory isn't told
+abbrev pub told_trouble : Trouble → Option Refusal
+told_trouble error.Memory = None
+told_trouble (error.Fault node count) = Some (refusal.Device node count)
+told_trouble (error.Full node used capacity) = Some (refusal.Full node used capacity)
+
+-- the end of a run that it brings
+abbrev pub cause_of : Trouble → StopCause
+cause_of error.Memory = stops.Command
+cause_of (error.Fault node count) = stops.Device node count
+cause_of (error.Full node used capacity) = stops.Full node used capacity
+
+-- want of memory isn't told
+abbrev pub is_told : Trouble → Bool
+is_told error.Memory = false
+is_told (error.Fault node count) = true
+is_told (error.Full node used capacity) = true
+
+abbrev pub is_device_fault : Trouble → Bool
+is_device_fault (error.Fault node count) = true
+is_device_fault _ = false

@@ -1,6 +1,6 @@
 -- What a run's memory answers of the datasets in cache.
-use Rattle.std.specs.Prelude.{ℕ, ◌+◌, ◌&&◌, not, Bool, true, false, nat_lt, nat_le, List, length, fold, find, bytes_eq, Option, None, Some, option_map, option_and_then, if◌then◌else◌, [], ◌∷◌, ◌≤◌, ◌<◌}
-use Rattle.std.specs.List.{list_any}
+use Rattle.std.specs.Prelude.{ℕ, ◌+◌, ◌&&◌, not, Bool, true, false, nat_lt, nat_le, List, length, fold, find, bytes_eq, Option, None, Some, is_some, is_none, option_map, option_and_then, if◌then◌else◌, [], ◌∷◌, ◌≤◌, ◌<◌}
+use Rattle.std.specs.List.{list_all, list_any}
 use Rattle.scr_base.specs.Same.{same_id}
 use Rattle.scr_base.specs.declared.shape.DataId.{DataId}
 use Rattle.scr_base.specs.Bytes.{bytes_for}
@@ -10,11 +10,11 @@ use Rattle.scr_base.specs.declared.answers.Phase.TheVariants as phase
 use Rattle.scr_base.specs.declared.answers.Refusal.{Refusal}
 use Rattle.scr_base.specs.declared.answers.Refusal.TheVariants as refusal
 use Rattle.scr_base.specs.declared.content.Step.{Step}
-use Rattle.scr_base.specs.declared.content.Step.TheVariants.{Start, Route, Write, Read}
+use Rattle.scr_base.specs.declared.content.Step.TheVariants.{Start, Route, Write, Complete, Read}
 use Rattle.filemap.specs.Rows.{is_routed}
 use Rattle.filemap.specs.Maps.{rows_of}
 use Rattle.filemap.specs.declared.rows.FileRow.{FileRow}
-use Rattle.round_core.specs.Seats.{judged_of}
+use Rattle.round_core.specs.Seats.{judged_of, is_complete, first_call, seat_is_valid}
 use Rattle.ckpt_model.specs.Dataset.{is_checkpoint_flag}
 use Rattle.site_core.specs.declared.cache.Cached.{Cached}
 use Rattle.site_core.specs.declared.cache.Manifest.{Manifest}
@@ -69,6 +69,23 @@ start_verdict c _ = None
 -- the first refusal whose condition holds, of a complete round that begins with this call
 abbrev pub verdict_of : Core → Step → Option Refusal
 verdict_of c call = or_else (judged_of c.phase c.ranks) (or_else (refuse_if (has_bad_name call) refusal.BadName) (start_verdict c call))
+
+-- the round completes a dataset, and nothing speaks against it
+abbrev pub completes_with : Core → Option Step → Bool
+completes_with c (Some (Complete valid)) = is_none (verdict_of c (Complete valid))
+completes_with c _ = false
+
+-- the round completes the open dataset, and nothing speaks against it
+abbrev pub completes : Core → Bool
+completes c = is_some c.opened && is_complete c.ranks && completes_with c (first_call c.ranks)
+
+-- every rank says that its part is valid: the dataset is to be saved
+abbrev pub is_to_save : Core → Bool
+is_to_save c = completes c && list_all seat_is_valid c.ranks
+
+-- some rank doesn't: it is to be removed
+abbrev pub is_to_drop : Core → Bool
+is_to_drop c = completes c && not (list_all seat_is_valid c.ranks)
 
 -- ## A rank's own steps
 

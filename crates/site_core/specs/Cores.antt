@@ -18,7 +18,12 @@ use Rattle.site_core.specs.declared.cache.Mark.TheVariants as mark
 use Rattle.site_core.specs.declared.core_state.Core.{Core}
 use Rattle.site_core.specs.declared.core_state.Stage.TheVariants as stage
 use Rattle.site_core.specs.declared.core_moves.Spot.{Spot}
-use Rattle.site_core.specs.Shown.{mends, settled_if}
+use Rattle.scr_base.specs.declared.answers.Refusal.{Refusal}
+use Rattle.scr_base.specs.declared.answers.Reply.{Reply}
+use Rattle.scr_base.specs.declared.answers.Reply.TheVariants as reply
+use Rattle.site_core.specs.declared.core_state.Drop.TheVariants as drop
+use Rattle.site_core.specs.Removals.{leaving}
+use Rattle.site_core.specs.Shown.{mends, settled_if, greatest_id}
 use Rattle.site_core.specs.Choosing.{seals, count_one, at_hand}
 
 -- the memory of a run that has made no move
@@ -92,3 +97,24 @@ sealed_core c m = record c { opened = None; kept = c.kept ++ sealing_one m ∷ [
 -- the dataset is settled, and the run serves again
 abbrev pub settled_core : Core → DataId → Core
 settled_core c which = record c { stage = stage.Serving; kept = map (settled_if which) c.kept; settled = c.settled + count_one which c.kept }
+
+-- the files of the open dataset are to be removed
+abbrev pub dropping_core : Core → DataId → Option Refusal → Core
+dropping_core c which refusal = record c { stage = stage.Dropping drop.File 0; removal = leaving which 0; refusal = refusal }
+
+-- those on this node come next
+abbrev pub next_drop_core : Core → ℕ → Core
+next_drop_core c node = record c { stage = stage.Dropping drop.File node; removal = leaving c.removal.which node }
+
+-- the open dataset is gone, and the run serves again
+abbrev pub closed_core : Core → Core
+closed_core c = record c { stage = stage.Serving; opened = None; phase = phase.Idle; refusal = None }
+
+-- what the round is answered whose dataset is gone
+abbrev pub dropped_answer : Option Refusal → Reply
+dropped_answer None = reply.NotKept
+dropped_answer (Some refusal) = reply.Refused refusal
+
+-- recovery found these datasets
+abbrev pub seen_core : Core → List Cached → Core
+seen_core c kept = record c { stage = stage.Mending; kept = kept; next = greatest_id kept + 1 }

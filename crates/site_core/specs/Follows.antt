@@ -1,5 +1,5 @@
 -- A site's history is a run of the machine to a state for which its memory and its devices stand.
-use Rattle.std.specs.Prelude.{◌≡◌, ◌≤◌, ◌<◌, ◌+◌, ◌^◌, ℕ, true, false, List, ◌++◌, length, map, slice_get, slice_set, Option, Some, None}
+use Rattle.std.specs.Prelude.{◌≡◌, ◌≤◌, ◌<◌, ◌+◌, ◌^◌, ℕ, true, false, List, [], ◌∷◌, ◌++◌, length, map, slice_get, slice_set, Option, Some, None}
 use Rattle.scr_base.specs.declared.actor.Actor.{Actor}
 use Rattle.scr_base.specs.declared.actor.Actor.TheVariants.{Rank}
 use Rattle.scr_base.specs.declared.answers.Phase.{Phase}
@@ -26,12 +26,23 @@ use Rattle.site_core.specs.declared.site.Site.{Site}
 use Rattle.site_core.specs.declared.core_state.Core.{Core}
 use Rattle.site_core.specs.declared.cache.Manifest.{Manifest}
 use Rattle.site_core.specs.declared.core_state.Work.{Work}
-use Rattle.site_core.specs.declared.core_state.Stage.TheVariants.{Stopped}
+use Rattle.scr_base.specs.declared.answers.Refusal.TheVariants as refusal
+use Rattle.ckpt_model.specs.declared.event.StopCause.{StopCause}
+use Rattle.ckpt_model.specs.declared.event.StopCause.TheVariants as stops
+use Rattle.site_core.specs.declared.turn.Turn.{Turn}
+use Rattle.site_core.specs.declared.turn.Turn.TheVariants as turn
+use Rattle.site_core.specs.Waiting.{is_over}
+use Rattle.site_core.specs.Causes.{IsFault, IsFull}
 use Rattle.site_core.specs.Shown.{Contents, running, setup_of, served}
 use Rattle.site_core.specs.Choosing.{verdict_of}
 use Rattle.site_core.specs.Calls.{TellsAll}
 use Rattle.site_core.specs.Stored.{cells_of, contents_of}
-use Rattle.site_core.specs.Holds.{StandsFor, HasRest, Leads, IsSaving}
+use Rattle.site_core.specs.Holds.{StandsFor, HasRest, Leads, IsSaving, IsCutRun}
+
+-- this holds of each event
+abbrev pub Each : (Event → Type 0) → List Event → Type 0
+Each p [] = Unit {0}
+Each p (e ∷ events) = p e × Each p events
 
 -- between two runs the devices stand for this state
 abbrev pub Stands : Setup → (ℕ → DeviceState) → Machine → Type 0
@@ -52,15 +63,92 @@ pub record Ends (s : Setup) (states : ℕ → DeviceState) (first : Machine) (pl
   pub rest : HasRest s states state
   pub item : IsRunOf places programs AtEnd events
 
+-- the events of a run that a device ended, or somebody from outside
+pub record WasCut (s : Setup) (first : Machine) (places : List ℕ) (programs : List (List Step)) (events : List Event) : Type 0 where
+  pub state : Machine
+  pub run : RunsTo s first events state
+  pub item : IsCutRun places programs events
+
 -- the run is over
 abbrev pub HasStopped : {D : Type 0} → Site D → Type 0
-HasStopped site = site.core.stage ≡ Stopped
+HasStopped site = is_over site.core.stage ≡ true
 
--- at most one event was told
-pub record TellsOne (old new : List Event) : Type 0 where
+-- ## What a turn tells
+
+-- a turn of this rank may tell the event
+abbrev pub IsOfRank : ℕ → Event → Type 0
+IsOfRank r (event.Call rank number call) = rank ≡ r
+IsOfRank r (event.Reply rank number answer) = rank ≡ r
+IsOfRank r (event.Local rank number call answer) = rank ≡ r
+IsOfRank r (event.Decided kind answer) = Unit {0}
+IsOfRank r (event.Stop cause) = Unit {0}
+IsOfRank r _ = ⊥
+
+-- it is no rank's own: the turn of any rank may tell it
+abbrev pub IsOfRound : Event → Type 0
+IsOfRound (event.Decided kind answer) = Unit {0}
+IsOfRound (event.Stop cause) = Unit {0}
+IsOfRound _ = ⊥
+
+-- an end of a run that no rank brings
+abbrev pub IsWorkersEnd : StopCause → Type 0
+IsWorkersEnd (stops.Device node count) = Unit {0}
+IsWorkersEnd (stops.Full node used capacity) = Unit {0}
+IsWorkersEnd stops.Runs = Unit {0}
+IsWorkersEnd _ = ⊥
+
+-- the turn of recoverer, encoder, flusher or evictor may tell the event
+abbrev pub IsOfWorker : Event → Type 0
+IsOfWorker (event.Call rank number call) = ⊥
+IsOfWorker (event.Reply rank number answer) = ⊥
+IsOfWorker (event.Local rank number call answer) = ⊥
+IsOfWorker (event.Decided kind answer) = ⊥
+IsOfWorker (event.Stop cause) = IsWorkersEnd cause
+IsOfWorker _ = Unit {0}
+
+-- the actor's turn may tell the event
+abbrev pub IsOf : Actor → Event → Type 0
+IsOf (Rank rank) e = IsOfRank rank e
+IsOf _ e = IsOfWorker e
+
+-- a refusal by a device has its cause in this move
+abbrev pub IsRefusedFor : (ℕ → DeviceState) → (ℕ → DeviceState) → Reply → Type 0
+IsRefusedFor old new (replies.Refused (refusal.Device node count)) = IsFault old new node count
+IsRefusedFor old new (replies.Refused (refusal.Full node used capacity)) = IsFull old new node used capacity
+IsRefusedFor old new _ = Unit {0}
+
+-- a refusal by a device is the one that the round carries
+abbrev pub IsCarried : Option Refusal → Reply → Type 0
+IsCarried carried (replies.Refused (refusal.Device node count)) = carried ≡ Some (refusal.Device node count)
+IsCarried carried (replies.Refused (refusal.Full node used capacity)) = carried ≡ Some (refusal.Full node used capacity)
+IsCarried carried _ = Unit {0}
+
+-- an end by a device has its cause in this move
+abbrev pub IsEndedFor : (ℕ → DeviceState) → (ℕ → DeviceState) → StopCause → Type 0
+IsEndedFor old new (stops.Device node count) = IsFault old new node count
+IsEndedFor old new (stops.Full node used capacity) = IsFull old new node used capacity
+IsEndedFor old new _ = Unit {0}
+
+-- what the event says of devices has its cause
+abbrev pub IsCaused : (ℕ → DeviceState) → (ℕ → DeviceState) → Option Refusal → Event → Type 0
+IsCaused old new carried (event.Local rank number call answer) = IsRefusedFor old new answer
+IsCaused old new carried (event.Decided kind answer) = IsCarried carried answer
+IsCaused old new carried (event.Stop cause) = IsEndedFor old new cause
+IsCaused old new carried _ = Unit {0}
+
+-- at most one event was told, one that this actor may tell, and it has its cause
+pub record TellsBy {D : Type 0} (who : Event → Type 0) (state : D → DeviceState) (old new : Site D) : Type 0 where
   pub told : List Event
   pub few : length told ≤ 1
-  pub is : new ≡ old ++ told
+  pub is : new.history.events ≡ old.history.events ++ told
+  pub own : Each who told
+  pub caused : Each (IsCaused (states_of state old.bay) (states_of state new.bay) old.core.refusal) told
+
+-- a turn that didn't move left all as it was
+abbrev pub Stays : {D : Type 0} → Turn → Site D → Site D → Type 0
+Stays turn.Moved old new = Unit {0}
+Stays (turn.NotYet why) old new = new ≡ old
+Stays turn.Ended old new = new ≡ old
 
 -- the run is the same one
 pub record IsSameRun {D : Type 0} (old new : Site D) : Type 0 where

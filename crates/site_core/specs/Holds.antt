@@ -1,5 +1,5 @@
 -- What devices stand for between two runs, and what holds between two moves of a run.
-use Rattle.std.specs.Prelude.{◌≡◌, ◌≢◌, ◌⊎◌, ◌<◌, ◌≤◌, ◌+◌, ◌*◌, ◌^◌, nat_lt, nat_le, not, ◌==◌, ℕ, Bool, true, false, IsTrue, List, [], map, replicate, Option, None, Some, slice_get, codes}
+use Rattle.std.specs.Prelude.{◌≡◌, ◌≢◌, ◌⊎◌, ◌<◌, ◌≤◌, ◌+◌, ◌*◌, ◌^◌, nat_lt, nat_le, not, ◌==◌, ℕ, Bool, true, false, IsTrue, List, [], ◌∷◌, ◌++◌, map, replicate, Option, None, Some, slice_get, codes}
 use Rattle.std.specs.List.{list_all, list_any}
 use Rattle.scr_base.specs.Halt.{no_halt}
 use Rattle.scr_base.specs.Sets.{numbers_below}
@@ -10,7 +10,18 @@ use Rattle.node_device.specs.File.{IsAtRest}
 use Rattle.node_device.specs.DeviceState.{DeviceState}
 use Rattle.gated_record.specs.PairStages.{IsPairStage}
 use Rattle.gated_record.specs.declared.pair.PairValue.{PairValue}
-use Rattle.member_store.specs.Names.{record_name, IsPlace}
+use Rattle.scr_base.specs.declared.answers.Refusal.{Refusal}
+use Rattle.scr_base.specs.declared.answers.Reply.TheVariants as reply
+use Rattle.scr_base.specs.declared.shape.DataId.{DataId}
+use Rattle.ckpt_model.specs.Answers.{is_fault}
+use Rattle.ckpt_model.specs.Dataset.{Dataset}
+use Rattle.ckpt_model.specs.declared.event.Event.TheVariants as event
+use Rattle.ckpt_model.specs.declared.event.StopCause.{StopCause}
+use Rattle.ckpt_model.specs.declared.event.StopCause.TheVariants as stops
+use Rattle.site_core.specs.declared.core_state.Drop.{Drop}
+use Rattle.site_core.specs.declared.core_state.Drop.TheVariants as drop
+use Rattle.member_store.specs.Calls.{IsDropStage}
+use Rattle.member_store.specs.Names.{record_name, IsPlace, IsNameOf}
 use Rattle.site_core.specs.Causes.{IsNumberFile}
 use Rattle.ckpt_model.specs.Machine.{Machine, Setup, Stage as Place}
 use Rattle.ckpt_model.specs.Legal.{IsRunOf, AreOfPrograms, begins_run, is_stop}
@@ -28,7 +39,7 @@ use Rattle.site_core.specs.declared.core_state.Work.{Work}
 use Rattle.site_core.specs.declared.core_state.Work.TheVariants as work
 use Rattle.site_core.specs.Shown.{running, stopped, begun, setup_of, kept_of, mends}
 use Rattle.site_core.specs.Choosing.{verdict_of, AscendFrom, seals, is_at_rest, is_being_sealed}
-use Rattle.site_core.specs.Stored.{Cells, cells_of, contents_of, contents_in, file_name, FilesStand, RecordsStand, RecordIs, NoOtherRecords, NoFutureFiles, IsOfSite, IsWell, FilesHold, stored_run, run_number}
+use Rattle.site_core.specs.Stored.{IsKnown, IsAmong, Cells, cells_of, contents_of, contents_in, file_name, FilesStand, RecordsStand, RecordIs, NoOtherRecords, NoFutureFiles, IsOfSite, IsWell, FilesHold, stored_run, run_number}
 
 -- ## Between two runs
 
@@ -199,6 +210,76 @@ pub record IsUp (c : Core) (states : ℕ → DeviceState) (m : Machine) : Type 0
   pub unrecorded : NoRecordYet c.stage c (cells_of states)
   pub working : WorkIs c.stage c states
 
+-- ## A dataset on its way out
+
+-- the ranks ask for the open dataset to be completed, not all of them say valid, and nothing speaks against the round
+pub record IsDropRound (c : Core) (which : DataId) : Type 0 where
+  pub set : Manifest
+  pub opened : c.opened ≡ Some set
+  pub which_is : which ≡ set.desc.which
+  pub complete : is_complete c.ranks ≡ true
+  pub valid : Bool
+  pub first : first_call c.ranks ≡ Some (step.Complete valid)
+  pub clear : verdict_of c (step.Complete valid) ≡ None
+  pub some : list_all seat_is_valid c.ranks ≡ false
+
+-- why it goes: a rank doesn't say valid, or a device refuses the round
+abbrev pub IsDropCause : Core → Option Refusal → Type 0
+IsDropCause c None = list_all seat_is_valid c.ranks ≡ false
+IsDropCause c (Some refusal) = (is_fault (reply.Refused refusal) ≡ true) × (list_all seat_is_valid c.ranks ≡ true)
+
+-- the round for which it goes
+pub record IsDropFor (c : Core) : Type 0 where
+  pub complete : is_complete c.ranks ≡ true
+  pub valid : Bool
+  pub first : first_call c.ranks ≡ Some (step.Complete valid)
+  pub clear : verdict_of c (step.Complete valid) ≡ None
+  pub why : IsDropCause c c.refusal
+
+-- a file of one of the dataset's members
+abbrev pub IsOfDataset : DataId → List ℕ → Type 0
+IsOfDataset which q = (node : ℕ) × IsNameOf which node q
+
+-- The open dataset is on its way out: on some nodes its record is gone, and on some of these that is stable. Of the machine's
+-- open dataset nothing is said.
+pub record IsLeavingAt (gone settled : ℕ → Bool) (c : Core) (states : ℕ → DeviceState) (m : Machine) : Type 0 where
+  pub set : Manifest
+  pub opened : c.opened ≡ Some set
+  pub dataset : Dataset
+  pub is : m ≡ record (running (contents_of (cells_of states) c) c) { open_dataset = Some dataset }
+  pub round : IsDropFor c
+  pub well : IsWell c
+  pub stored : stored_run (cells_of states) ≡ c.run
+  pub files : (x : Manifest) → IsAmong c.kept x → FilesStand (cells_of states) c.places c.shape.ranks x
+  pub records : (i : ℕ) (x : Cached) → slice_get c.kept i ≡ Some x → RecordsStand (cells_of states) c.places x.manifest
+  pub others : NoOtherRecords (IsKnown c) (cells_of states) c.places
+  pub future : NoFutureFiles (cells_of states) c.run c.next
+  pub mended : list_any mends c.kept ≡ false
+  pub sealed : list_any seals c.kept ≡ false
+  pub removed : (node p : ℕ) → slice_get c.places node ≡ Some p → gone node ≡ true → cells_of states p (record_name set.desc.which node) ≡ None
+  pub quiet : (p : ℕ) (q : List ℕ) → p ≤ 32 → (p < c.shape.nodes → settled p ≡ false → IsOfDataset set.desc.which q → ⊥) → IsAtRest ((states p).file q)
+
+-- the node's files are gone
+abbrev pub is_gone_at : Drop → ℕ → ℕ → Bool
+is_gone_at drop.File n node = nat_lt node n
+is_gone_at drop.Sync n node = nat_le node n
+
+-- what the evictor counts on
+abbrev pub RemovalIs : Drop → ℕ → Core → DataId → (ℕ → DeviceState) → Type 0
+RemovalIs drop.File n c which states = (c.removal.node ≡ n) × IsDropStage which n (states n) c.removal.changes
+RemovalIs drop.Sync n c which states = Unit {0}
+
+-- the files on this node are being removed, and those before it are gone
+pub record IsDropping (d : Drop) (n : ℕ) (c : Core) (states : ℕ → DeviceState) (m : Machine) : Type 0 where
+  pub leaves : IsLeavingAt (is_gone_at d n) (λ node. nat_lt node n) c states m
+  pub below : n < c.shape.nodes
+  pub which_is : c.removal.which ≡ leaves.set.desc.which
+  pub work : RemovalIs d n c leaves.set.desc.which states
+
+-- its files are gone everywhere, and that is stable
+abbrev pub IsDropped : Core → (ℕ → DeviceState) → Machine → Type 0
+IsDropped = IsLeavingAt (λ node. true) (λ node. true)
+
 -- the run is over: nothing but the files of an open dataset may be pending, and each dataset in cache is settled
 pub record IsOver (c : Core) (states : ℕ → DeviceState) (m : Machine) : Type 0 where
   pub is : m ≡ stopped (contents_of (cells_of states) c) c
@@ -217,7 +298,10 @@ abbrev pub HoldsAt : Stage → Core → (ℕ → DeviceState) → Machine → Ty
 HoldsAt stage.Begun c states m = IsBegun c states m
 HoldsAt stage.Storing c states m = IsStoring c states m
 HoldsAt stage.Looking c states m = IsLooking c states m
+HoldsAt (stage.Dropping d n) c states m = IsDropping d n c states m
+HoldsAt stage.Dropped c states m = IsDropped c states m
 HoldsAt stage.Stopped c states m = HasRest (setup_of c) states m
+HoldsAt stage.Cut c states m = Unit {0}
 HoldsAt _ c states m = IsUp c states m
 
 -- the events so far of a run that has begun and isn't over
@@ -226,11 +310,29 @@ pub record IsSoFar (places : List ℕ) (programs : List (List Step)) (events : L
   pub steps : AreOfPrograms programs events
   pub goes_on : IsTrue (list_all (λ e. not (is_stop e)) events)
 
+-- the run's end came by a device, or from outside
+abbrev pub is_cut : StopCause → Bool
+is_cut (stops.Device node count) = true
+is_cut (stops.Full node used capacity) = true
+is_cut stops.Script = true
+is_cut _ = false
+
+-- the events are those of a run whose end came so
+pub record IsCutRun (places : List ℕ) (programs : List (List Step)) (events : List Event) : Type 0 where
+  pub front : List Event
+  pub cause : StopCause
+  pub is : events ≡ front ++ event.Stop cause ∷ []
+  pub cut : is_cut cause ≡ true
+  pub begin : IsTrue (begins_run places events)
+  pub steps : AreOfPrograms programs events
+  pub goes_on : IsTrue (list_all (λ e. not (is_stop e)) front)
+
 -- the events are those of the run, as far as it has come
 abbrev pub ToldAt : Stage → List ℕ → List (List Step) → List Event → Type 0
 ToldAt stage.Begun places programs events = events ≡ []
 ToldAt stage.Storing places programs events = events ≡ []
 ToldAt stage.Stopped places programs events = IsRunOf places programs AtEnd events
+ToldAt stage.Cut places programs events = IsCutRun places programs events
 ToldAt _ places programs events = IsSoFar places programs events
 
 -- the history leads from a state to one for which the run's memory and files stand

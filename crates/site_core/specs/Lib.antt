@@ -1,7 +1,9 @@
 pub mod Shown
 pub mod Choosing
+pub mod Waiting
 pub mod Numbers
 pub mod Looks
+pub mod Removals
 pub mod Cores
 pub mod Stored
 pub mod Holds

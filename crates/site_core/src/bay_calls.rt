@@ -1,10 +1,11 @@
 // The calls on a bay's devices that the moves are made of.
 ghost use Rattle.std.specs.Prelude.{◌≡◌, ◌≤◌, ◌<◌, ◌*◌, true, [], codes, length};
 ghost use Rattle.node_device.specs.Rack.{states_of, OnlyAt};
-ghost use Rattle.member_store.specs.Calls.{Scans, WritesPart, ReadsPart, WritesMember, SetsGate};
+ghost use Rattle.member_store.specs.Calls.{Drops, Scans, WritesPart, ReadsPart, WritesMember, SetsGate};
 ghost use Rattle.gated_record.specs.PairSteps.{StepsPair};
 ghost use Rattle.site_core.specs.Numbers.{LoadsNumber};
 
+use crate::removal::Removal;
 use crate::storing::Storing;
 use dataset_desc::Desc;
 use filemap::Filemap;
@@ -111,4 +112,19 @@ pub(crate) fn open_gate_at<D: Device>(
     ensures { OnlyAt place (SetsGate which node gate true result) (states_of D.state bay.old) (states_of D.state bay.new) }
 {
     set_gate(bay.device(place), which, node, gate, true)
+}
+
+/// Removes one file of a member, at most.
+pub(crate) fn drop_file_at<D: Device>(
+    alloc: Global,
+    bay: &mut Bay<D>,
+    place: u8,
+    removal: &mut Removal,
+) -> Result<bool, DevError>
+    requires { place ≤ 32 }
+    ensures which { removal.new.which ≡ removal.old.which }
+    ensures node { removal.new.node ≡ removal.old.node }
+    ensures drops { OnlyAt place (Drops removal.old.which removal.old.node result removal.old.changes removal.new.changes) (states_of D.state bay.old) (states_of D.state bay.new) }
+{
+    removal.step(alloc, bay.device(place))
 }

@@ -2,9 +2,11 @@
 ghost use Rattle.std.specs.Prelude.{◌≡◌, ◌+◌, ◌*◌, ◌<◌, ◌≤◌, ◌^◌, true, false, None, Some, length, map, IfOk, OnOk, OnErr};
 ghost use Rattle.node_device.specs.Rack.{states_of};
 ghost use Rattle.scr_base.specs.declared.content.Step.TheVariants as step;
-ghost use Rattle.round_core.specs.Seats.{next_number};
-ghost use Rattle.site_core.specs.Causes.{SiteCause};
-ghost use Rattle.site_core.specs.Follows.{Keeps, TellsOne, IsSameRun, IsFreeSeat, IsNextCall};
+ghost use Rattle.std.specs.Prelude.{[], slice_get, position, unwrap_or};
+ghost use Rattle.round_core.specs.declared.seat.Seat.{Seat};
+ghost use Rattle.round_core.specs.Seats.{next_number, is_missing};
+ghost use Rattle.site_core.specs.Waiting.{changes_left, rank_turn, serving_turn, round_turn, free_turn};
+ghost use Rattle.site_core.specs.Follows.{Keeps, TellsBy, IsOfRank, IsOfRound, IsSameRun, Stays, IsFreeSeat, IsNextCall};
 
 use crate::core_state::{Stage, Work};
 use crate::error::SiteError;
@@ -20,10 +22,11 @@ impl<D: Device> Site<D> {
     pub(crate) fn rank(&mut self, rank: u8) -> Result<Turn, SiteError>
         requires rank { rank < length self.old.core.ranks }
         ensures run { OnOk result (Keeps D.state self.old self.new) }
-        ensures told { OnOk result (TellsOne self.old.history.events self.new.history.events) }
+        ensures told { OnOk result (TellsBy (IsOfRank rank) D.state self.old self.new) }
         ensures refused { OnErr result (self.new.history.events ≡ self.old.history.events) }
         ensures fixed { IsSameRun self.old self.new }
-        ensures cause { SiteCause (states_of D.state self.old.bay) (states_of D.state self.new.bay) result }
+        ensures still { IfOk result (λ turn. Stays turn self.old self.new) }
+        ensures waits { IfOk result (λ turn. turn ≡ rank_turn self.old.core.stage self.old.core self.old.programs rank) }
     {
         match self.core.stage {
             Stage::Serving => self.serve(rank),
@@ -32,7 +35,13 @@ impl<D: Device> Site<D> {
                     left: changes_left(work, node, self.core.shape.nodes),
                 },
             }),
-            Stage::Stopped => Ok(Turn::Ended),
+            Stage::Dropping { .. } => Ok(Turn::NotYet {
+                why: Why::Evict {
+                    id: self.core.removal.id(),
+                },
+            }),
+            Stage::Dropped => self.decide_dropped(),
+            Stage::Stopped | Stage::Cut => Ok(Turn::Ended),
             _ => Ok(Turn::NotYet { why: Why::Recover }),
         }
     }
@@ -41,10 +50,11 @@ impl<D: Device> Site<D> {
     fn serve(&mut self, rank: u8) -> Result<Turn, SiteError>
         requires stage { self.old.core.stage ≡ Stage.Serving }
         ensures run { OnOk result (Keeps D.state self.old self.new) }
-        ensures told { OnOk result (TellsOne self.old.history.events self.new.history.events) }
+        ensures told { OnOk result (TellsBy (IsOfRank rank) D.state self.old self.new) }
         ensures refused { OnErr result (self.new.history.events ≡ self.old.history.events) }
         ensures fixed { IsSameRun self.old self.new }
-        ensures cause { SiteCause (states_of D.state self.old.bay) (states_of D.state self.new.bay) result }
+        ensures still { IfOk result (λ turn. Stays turn self.old self.new) }
+        ensures waits { IfOk result (λ turn. turn ≡ serving_turn self.old.core self.old.programs rank (slice_get self.old.core.ranks rank)) }
     {
         let Some(seat) = self.core.ranks.seat(rank) else {
             return Err(SiteError::Memory);
@@ -60,10 +70,11 @@ impl<D: Device> Site<D> {
     fn wait(&mut self) -> Result<Turn, SiteError>
         requires stage { self.old.core.stage ≡ Stage.Serving }
         ensures run { OnOk result (Keeps D.state self.old self.new) }
-        ensures told { OnOk result (TellsOne self.old.history.events self.new.history.events) }
+        ensures told { OnOk result (TellsBy IsOfRound D.state self.old self.new) }
         ensures refused { OnErr result (self.new.history.events ≡ self.old.history.events) }
         ensures fixed { IsSameRun self.old self.new }
-        ensures cause { SiteCause (states_of D.state self.old.bay) (states_of D.state self.new.bay) result }
+        ensures still { IfOk result (λ turn. Stays turn self.old self.new) }
+        ensures waits { IfOk result (λ turn. turn ≡ round_turn self.old.core (position is_missing self.old.core.ranks)) }
     {
         match self.core.ranks.missing() {
             Some(rank) => Ok(Turn::NotYet {
@@ -77,10 +88,11 @@ impl<D: Device> Site<D> {
     fn reply(&mut self, rank: u8) -> Result<Turn, SiteError>
         requires stage { self.old.core.stage ≡ Stage.Serving }
         ensures run { OnOk result (Keeps D.state self.old self.new) }
-        ensures told { OnOk result (TellsOne self.old.history.events self.new.history.events) }
+        ensures told { OnOk result (TellsBy (IsOfRank rank) D.state self.old self.new) }
         ensures refused { OnErr result (self.new.history.events ≡ self.old.history.events) }
         ensures fixed { IsSameRun self.old self.new }
-        ensures cause { SiteCause (states_of D.state self.old.bay) (states_of D.state self.new.bay) result }
+        ensures still { IfOk result (λ turn. Stays turn self.old self.new) }
+        ensures moved { IfOk result (λ turn. turn ≡ Turn.Moved) }
     {
         let Some(seat) = self.core.ranks.seat(rank) else {
             return Err(SiteError::Memory);
@@ -103,10 +115,11 @@ impl<D: Device> Site<D> {
         requires stage { self.old.core.stage ≡ Stage.Serving }
         requires free { IsFreeSeat self.old.core rank }
         ensures run { OnOk result (Keeps D.state self.old self.new) }
-        ensures told { OnOk result (TellsOne self.old.history.events self.new.history.events) }
+        ensures told { OnOk result (TellsBy (IsOfRank rank) D.state self.old self.new) }
         ensures refused { OnErr result (self.new.history.events ≡ self.old.history.events) }
         ensures fixed { IsSameRun self.old self.new }
-        ensures cause { SiteCause (states_of D.state self.old.bay) (states_of D.state self.new.bay) result }
+        ensures still { IfOk result (λ turn. Stays turn self.old self.new) }
+        ensures waits { IfOk result (λ turn. (seat : Seat) → slice_get self.old.core.ranks rank ≡ Some seat → turn ≡ free_turn seat.ended (slice_get (unwrap_or (slice_get self.old.programs rank) []) seat.number)) }
     {
         let Some(seat) = self.core.ranks.seat(rank) else {
             return Err(SiteError::Memory);
@@ -133,10 +146,11 @@ impl<D: Device> Site<D> {
         requires stage { self.old.core.stage ≡ Stage.Serving }
         requires free { IsFreeSeat self.old.core rank }
         ensures run { OnOk result (Keeps D.state self.old self.new) }
-        ensures told { OnOk result (TellsOne self.old.history.events self.new.history.events) }
+        ensures told { OnOk result (TellsBy (IsOfRank rank) D.state self.old self.new) }
         ensures refused { OnErr result (self.new.history.events ≡ self.old.history.events) }
         ensures fixed { IsSameRun self.old self.new }
-        ensures cause { SiteCause (states_of D.state self.old.bay) (states_of D.state self.new.bay) result }
+        ensures still { IfOk result (λ turn. Stays turn self.old self.new) }
+        ensures moved { IfOk result (λ turn. turn ≡ Turn.Moved) }
     {
         let Some(seat) = self.core.ranks.seat(rank) else {
             return Err(SiteError::Memory);
@@ -155,10 +169,11 @@ impl<D: Device> Site<D> {
         requires stage { self.old.core.stage ≡ Stage.Serving }
         requires next { IsNextCall self.old.programs self.old.core rank step }
         ensures run { OnOk result (Keeps D.state self.old self.new) }
-        ensures told { OnOk result (TellsOne self.old.history.events self.new.history.events) }
+        ensures told { OnOk result (TellsBy (IsOfRank rank) D.state self.old self.new) }
         ensures refused { OnErr result (self.new.history.events ≡ self.old.history.events) }
         ensures fixed { IsSameRun self.old self.new }
-        ensures cause { SiteCause (states_of D.state self.old.bay) (states_of D.state self.new.bay) result }
+        ensures still { IfOk result (λ turn. Stays turn self.old self.new) }
+        ensures moved { IfOk result (λ turn. turn ≡ Turn.Moved) }
     {
         let Some(seat) = self.core.ranks.seat(rank) else {
             return Err(SiteError::Memory);
@@ -187,16 +202,17 @@ fn number_after(seat: &Seat) -> u32
     }
 }
 
-/// How many changes are left until a dataset is settled on so many nodes.
-fn changes_left(work: Work, node: u8, nodes: u8) -> u32 {
-    let after = 2 * u32::from(nodes.saturating_sub(node));
-    let stage = 2 * u32::from(nodes);
+/// How many syncs and gate writes are left until a dataset is settled on so many nodes.
+pub(crate) fn changes_left(work: Work, node: u8, nodes: u8) -> u32
+    ensures { result ≡ changes_left work node nodes }
+{
+    let after = u32::from(nodes.saturating_sub(node));
+    let all = 2 * u32::from(nodes);
     match work {
-        Work::Record => after + 2 * stage,
-        Work::RecordSync => (after + 2 * stage).saturating_sub(1),
-        Work::Whole => after + stage,
-        Work::WholeSync => (after + stage).saturating_sub(1),
-        Work::Sealed => after,
-        Work::SealedSync => after.saturating_sub(1),
+        Work::Record | Work::RecordSync => after + 2 * all,
+        Work::Whole => 2 * after + all,
+        Work::WholeSync => (2 * after + all).saturating_sub(1),
+        Work::Sealed => 2 * after,
+        Work::SealedSync => (2 * after).saturating_sub(1),
     }
 }

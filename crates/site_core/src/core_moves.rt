@@ -1,26 +1,27 @@
 // What the moves change of a site's memory.
-ghost use Rattle.std.specs.Prelude.{◌≡◌, ◌≤◌, ◌<◌, ◌+◌, ◌-◌, ◌*◌, ◌≢◌, true, None, Some, IfOk, IfSome, OnErr, Err, length, if◌then◌else◌, nat_lt};
+ghost use Rattle.std.specs.Prelude.{◌≡◌, ◌≤◌, ◌<◌, ◌+◌, ◌-◌, ◌*◌, ◌≢◌, true, None, Some, IfOk, IfSome, is_some, OnErr, false, Err, length, if◌then◌else◌, nat_lt};
 ghost use Rattle.std.specs.List.{list_all};
 ghost use Rattle.scr_base.specs.Sets.{numbers_below};
 ghost use Rattle.filemap.specs.Rows.{routed, extended};
 ghost use Rattle.filemap.specs.Maps.{rows_of};
 ghost use Rattle.site_core.specs.Shown.{greatest_id};
-ghost use Rattle.site_core.specs.Choosing.{is_crowded};
+ghost use Rattle.site_core.specs.Choosing.{is_crowded, is_to_save, is_to_drop};
 ghost use Rattle.site_core.specs.Numbers.{way_of};
-ghost use Rattle.site_core.specs.Holds.{IsSaveRound};
-ghost use Rattle.site_core.specs.Cores.{IsNewCore, IsSameCore, IsOpened, HasShape, IsSpot, recovered, with_rows, saved_in, sealed_core, settled_core};
+ghost use Rattle.site_core.specs.Holds.{IsSaveRound, IsDropRound};
+ghost use Rattle.site_core.specs.Cores.{dropping_core, next_drop_core, dropped_answer, closed_core, IsNewCore, IsSameCore, IsOpened, HasShape, IsSpot, recovered, with_rows, saved_in, sealed_core, settled_core};
 ghost use Rattle.site_core.specs.declared.cache.Manifest.{Manifest};
 
 use crate::cache::{Cache, Cached, Manifest, Mark};
-use crate::core_state::{Core, Stage, Work};
+use crate::core_state::{Core, Drop, Stage, Work};
 use crate::error::SiteError;
 use crate::places::Places;
+use crate::removal::Removal;
 use crate::storing::Storing;
 use dataset_desc::Desc;
 use filemap::{Filemap, RouteError};
 use member_store::Part;
 use round_core::Round;
-use scr_base::{Config, DataId, Flags, Memory, Name, Phase, Shape, Step, Word};
+use scr_base::{Config, DataId, Flags, Memory, Name, Phase, Refusal, Reply, Shape, Step, Word};
 use std::alloc::Global;
 
 /// Where a rank's file stands.
@@ -89,6 +90,8 @@ impl Core {
             kept: Cache::new(alloc),
             ranks: Round::new(alloc, shape.nodes * shape.ranks)?,
             settled: 0,
+            removal: Removal::new(DataId { id: 1, run: 1 }, 0),
+            refusal: None,
         })
     }
 
@@ -242,6 +245,7 @@ impl Core {
     /// Whether the ranks ask for the open dataset to be saved, and nothing speaks against it.
     pub(crate) fn is_to_save(&self, alloc: Global) -> Result<bool, SiteError>
         ensures round { IfOk result (λ is. is ≡ true → IsSaveRound self.now) }
+        ensures exact { IfOk result (λ is. is ≡ is_to_save self.now) }
         ensures opened { IfOk result (λ is. is ≡ true → self.now.opened ≢ None) }
         ensures memory { OnErr result (result ≡ Err SiteError.Memory) }
     {
@@ -317,6 +321,81 @@ impl Core {
     {
         self.settled += self.kept.count(which);
         self.kept.settle(which);
+        self.stage = Stage::Serving;
+    }
+
+    /// The open dataset, where the ranks ask for it to be completed, not all of them say valid, and nothing speaks against the
+    /// round.
+    pub(crate) fn to_drop(&self, alloc: Global) -> Result<Option<DataId>, SiteError>
+        ensures round { IfOk result (λ asked. IfSome asked (λ which. IsDropRound self.now which)) }
+        ensures exact { IfOk result (λ asked. is_some asked ≡ is_to_drop self.now) }
+    {
+        let Some(m) = &self.opened else {
+            return Ok(None);
+        };
+        let None = self.ranks.missing() else {
+            return Ok(None);
+        };
+        if self.ranks.is_valid() {
+            return Ok(None);
+        }
+        let Some(call) = self.ranks.call(0) else {
+            return Ok(None);
+        };
+        let Step::Complete { valid: _ } = call else {
+            return Ok(None);
+        };
+        let verdict = self.verdict(alloc, call)?;
+        match verdict {
+            None => Ok(Some(m.desc.which)),
+            Some(_) => Ok(None),
+        }
+    }
+
+    /// The files of the open dataset are to be removed, since the ranks ask for that, or a device refuses the round.
+    pub(crate) fn begin_dropping(&mut self, which: DataId, refusal: Option<Refusal>)
+        ensures { self.new ≡ dropping_core self.old which refusal }
+    {
+        self.removal = Removal::new(which, 0);
+        self.refusal = refusal;
+        self.stage = Stage::Dropping {
+            drop: Drop::File,
+            node: 0,
+        };
+    }
+
+    /// The files on a node are removed: the next node comes, or all is done.
+    pub(crate) fn drop_after(&mut self, node: u8)
+        ensures { self.new ≡ (if nat_lt node (self.old.shape.nodes - 1) then next_drop_core self.old (node + 1) else record self.old { stage = Stage.Dropped }) }
+    {
+        if node < self.shape.nodes - 1 {
+            self.removal = Removal::new(self.removal.which(), node + 1);
+            self.stage = Stage::Dropping {
+                drop: Drop::File,
+                node: node + 1,
+            };
+        } else {
+            self.stage = Stage::Dropped;
+        }
+    }
+
+    /// What the round is answered whose dataset is gone.
+    pub(crate) fn dropped_answer(&self) -> Reply
+        ensures { result ≡ dropped_answer self.now.refusal }
+    {
+        match self.refusal {
+            Some(refusal) => Reply::Refused { refusal },
+            None => Reply::NotKept,
+        }
+    }
+
+    /// The open dataset is gone.
+    pub(crate) fn close_dropped(&mut self)
+        ensures { self.new ≡ closed_core self.old }
+    {
+        self.opened = None;
+        self.refusal = None;
+        self.phase = Phase::Idle;
         self.stage = Stage::Serving;
     }
 }

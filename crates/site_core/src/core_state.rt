@@ -2,9 +2,10 @@
 
 use crate::cache::{Cache, Manifest};
 use crate::places::Places;
+use crate::removal::Removal;
 use crate::storing::Storing;
 use round_core::Round;
-use scr_base::{Config, DataId, Phase, Shape};
+use scr_base::{Config, DataId, Phase, Refusal, Shape};
 
 /// How far the saving of a dataset has come: the change that comes next.
 #[derive(Clone, Copy, Debug, PartialEq, Eq)]
@@ -23,6 +24,15 @@ pub enum Work {
     SealedSync,
 }
 
+/// What comes next of the removal of a dataset's files on a node.
+#[derive(Clone, Copy, Debug, PartialEq, Eq)]
+pub enum Drop {
+    /// A file is removed.
+    File,
+    /// That is made stable.
+    Sync,
+}
+
 /// Between which two changes of a device the run stands.
 #[derive(Clone, Copy, Debug, PartialEq, Eq)]
 pub enum Stage {
@@ -38,8 +48,14 @@ pub enum Stage {
     Serving,
     /// The open dataset is being saved: on this node, this comes next.
     Saving { work: Work, node: u8 },
-    /// The run is over.
+    /// The files of the open dataset are being removed: on this node, this comes next.
+    Dropping { drop: Drop, node: u8 },
+    /// They are removed, and the round is to be decided.
+    Dropped,
+    /// The run is over, at its end or for want of a number.
     Stopped,
+    /// The run is over, since a device failed or was full.
+    Cut,
 }
 
 /// The state of a run.
@@ -65,4 +81,8 @@ pub struct Core {
     pub ranks: Round,
     /// How many checkpoints were settled in this run.
     pub settled: u32,
+    /// How far the removal of a member of the open dataset has come.
+    pub removal: Removal,
+    /// Why a device refuses the round.
+    pub refusal: Option<Refusal>,
 }

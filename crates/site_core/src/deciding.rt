@@ -1,13 +1,14 @@
 // How a complete round is decided.
-ghost use Rattle.std.specs.Prelude.{◌≡◌, ◌+◌, ◌*◌, ◌<◌, ◌≤◌, ◌^◌, true, false, None, Some, length, map, IfOk, IfSome, OnOk, OnErr};
+ghost use Rattle.std.specs.Prelude.{Bool, ◌≡◌, ◌+◌, ◌*◌, ◌<◌, ◌≤◌, ◌^◌, true, false, None, Some, length, map, IfOk, IfSome, OnOk, OnErr};
 ghost use Rattle.node_device.specs.Rack.{states_of};
 ghost use Rattle.scr_base.specs.declared.content.Step.TheVariants as step;
 ghost use Rattle.round_core.specs.Seats.{is_complete};
-ghost use Rattle.ckpt_model.specs.Answers.{is_of_kind};
-ghost use Rattle.site_core.specs.Causes.{SiteCause};
-ghost use Rattle.site_core.specs.Follows.{Keeps, TellsOne, IsSameRun, IsClearRound, IsRefusedRound, MayDecide};
+ghost use Rattle.ckpt_model.specs.Answers.{is_of_kind, is_fault};
+ghost use Rattle.site_core.specs.Waiting.{round_turn, clear_turn, complete_turn};
+ghost use Rattle.site_core.specs.Follows.{Keeps, TellsBy, IsOfRound, IsSameRun, Stays, IsClearRound, IsRefusedRound, MayDecide};
 
-use crate::core_state::Stage;
+use crate::calls::changes_left;
+use crate::core_state::{Stage, Work};
 use crate::error::SiteError;
 use crate::site::Site;
 use crate::turn::{Turn, Why};
@@ -21,10 +22,11 @@ impl<D: Device> Site<D> {
         requires stage { self.old.core.stage ≡ Stage.Serving }
         requires complete { is_complete self.old.core.ranks ≡ true }
         ensures run { OnOk result (Keeps D.state self.old self.new) }
-        ensures told { OnOk result (TellsOne self.old.history.events self.new.history.events) }
+        ensures told { OnOk result (TellsBy IsOfRound D.state self.old self.new) }
         ensures refused { OnErr result (self.new.history.events ≡ self.old.history.events) }
         ensures fixed { IsSameRun self.old self.new }
-        ensures cause { SiteCause (states_of D.state self.old.bay) (states_of D.state self.new.bay) result }
+        ensures still { IfOk result (λ turn. Stays turn self.old self.new) }
+        ensures waits { IfOk result (λ turn. turn ≡ round_turn self.old.core None) }
     {
         let Some(first) = self.core.ranks.call(0) else {
             return Err(SiteError::Memory);
@@ -47,11 +49,13 @@ impl<D: Device> Site<D> {
     ) -> Result<Turn, SiteError>
         requires stage { self.old.core.stage ≡ Stage.Serving }
         requires steps { MayDecide D.state self.old kind answer phase offer }
+        requires calm { is_fault answer ≡ false }
         ensures run { OnOk result (Keeps D.state self.old self.new) }
-        ensures told { OnOk result (TellsOne self.old.history.events self.new.history.events) }
+        ensures told { OnOk result (TellsBy IsOfRound D.state self.old self.new) }
         ensures refused { OnErr result (self.new.history.events ≡ self.old.history.events) }
         ensures fixed { IsSameRun self.old self.new }
-        ensures cause { SiteCause (states_of D.state self.old.bay) (states_of D.state self.new.bay) result }
+        ensures still { IfOk result (λ turn. Stays turn self.old self.new) }
+        ensures moved { IfOk result (λ turn. turn ≡ Turn.Moved) }
     {
         self.history.reserve(1)?;
         self.core.ranks.decide(self.alloc, &answer)?;
@@ -66,10 +70,11 @@ impl<D: Device> Site<D> {
         requires stage { self.old.core.stage ≡ Stage.Serving }
         requires round { IsRefusedRound self.old.core call.now refusal }
         ensures run { OnOk result (Keeps D.state self.old self.new) }
-        ensures told { OnOk result (TellsOne self.old.history.events self.new.history.events) }
+        ensures told { OnOk result (TellsBy IsOfRound D.state self.old self.new) }
         ensures refused { OnErr result (self.new.history.events ≡ self.old.history.events) }
         ensures fixed { IsSameRun self.old self.new }
-        ensures cause { SiteCause (states_of D.state self.old.bay) (states_of D.state self.new.bay) result }
+        ensures still { IfOk result (λ turn. Stays turn self.old self.new) }
+        ensures moved { IfOk result (λ turn. turn ≡ Turn.Moved) }
     {
         match kind_of(call) {
             Some(kind) => self.tell_round(
@@ -87,10 +92,11 @@ impl<D: Device> Site<D> {
         requires stage { self.old.core.stage ≡ Stage.Serving }
         requires round { IsClearRound self.old.core call }
         ensures run { OnOk result (Keeps D.state self.old self.new) }
-        ensures told { OnOk result (TellsOne self.old.history.events self.new.history.events) }
+        ensures told { OnOk result (TellsBy IsOfRound D.state self.old self.new) }
         ensures refused { OnErr result (self.new.history.events ≡ self.old.history.events) }
         ensures fixed { IsSameRun self.old self.new }
-        ensures cause { SiteCause (states_of D.state self.old.bay) (states_of D.state self.new.bay) result }
+        ensures still { IfOk result (λ turn. Stays turn self.old self.new) }
+        ensures waits { IfOk result (λ turn. turn ≡ clear_turn self.old.core (Some call)) }
     {
         match call {
             Step::Start { name, flags } => self.start(name, flags),
@@ -108,10 +114,11 @@ impl<D: Device> Site<D> {
         requires stage { self.old.core.stage ≡ Stage.Serving }
         requires round { IsClearRound self.old.core (step.Start name flags) }
         ensures run { OnOk result (Keeps D.state self.old self.new) }
-        ensures told { OnOk result (TellsOne self.old.history.events self.new.history.events) }
+        ensures told { OnOk result (TellsBy IsOfRound D.state self.old self.new) }
         ensures refused { OnErr result (self.new.history.events ≡ self.old.history.events) }
         ensures fixed { IsSameRun self.old self.new }
-        ensures cause { SiteCause (states_of D.state self.old.bay) (states_of D.state self.new.bay) result }
+        ensures still { IfOk result (λ turn. Stays turn self.old self.new) }
+        ensures moved { IfOk result (λ turn. turn ≡ Turn.Moved) }
     {
         if self.core.is_crowded() {
             return Err(SiteError::Memory);
@@ -136,22 +143,43 @@ impl<D: Device> Site<D> {
         requires stage { self.old.core.stage ≡ Stage.Serving }
         requires round { IsClearRound self.old.core (step.Complete valid) }
         ensures run { OnOk result (Keeps D.state self.old self.new) }
-        ensures told { OnOk result (TellsOne self.old.history.events self.new.history.events) }
+        ensures told { OnOk result (TellsBy IsOfRound D.state self.old self.new) }
         ensures refused { OnErr result (self.new.history.events ≡ self.old.history.events) }
         ensures fixed { IsSameRun self.old self.new }
-        ensures cause { SiteCause (states_of D.state self.old.bay) (states_of D.state self.new.bay) result }
+        ensures still { IfOk result (λ turn. Stays turn self.old self.new) }
+        ensures waits { IfOk result (λ turn. turn ≡ complete_turn self.old.core self.old.core.opened) }
+    {
+        let Some(m) = &self.core.opened else {
+            return self.kept();
+        };
+        let why = if self.core.ranks.is_valid() {
+            Why::Encode {
+                left: changes_left(Work::Record, 0, self.core.shape.nodes),
+            }
+        } else {
+            Why::Evict {
+                id: m.desc.which.id,
+            }
+        };
+        Ok(Turn::NotYet { why })
+    }
+
+    /// The dataset is sealed on every node.
+    fn kept(&mut self) -> Result<Turn, SiteError>
+        requires stage { self.old.core.stage ≡ Stage.Serving }
+        requires round { (valid : Bool) × IsClearRound self.old.core (step.Complete valid) }
+        requires opened { self.old.core.opened ≡ None }
+        ensures run { OnOk result (Keeps D.state self.old self.new) }
+        ensures told { OnOk result (TellsBy IsOfRound D.state self.old self.new) }
+        ensures refused { OnErr result (self.new.history.events ≡ self.old.history.events) }
+        ensures fixed { IsSameRun self.old self.new }
+        ensures still { IfOk result (λ turn. Stays turn self.old self.new) }
+        ensures moved { IfOk result (λ turn. turn ≡ Turn.Moved) }
     {
         if !self.core.ranks.is_valid() {
             return Err(SiteError::Memory);
         }
-        match &self.core.opened {
-            Some(_) => Ok(Turn::NotYet {
-                why: Why::Encode {
-                    left: 6 * self.core.shape.nodes as u32,
-                },
-            }),
-            None => self.tell_round(Kind::Complete, Reply::Kept, Phase::Idle, self.core.offer),
-        }
+        self.tell_round(Kind::Complete, Reply::Kept, Phase::Idle, self.core.offer)
     }
 
     /// The newest checkpoint is offered, or there is none.
@@ -159,10 +187,11 @@ impl<D: Device> Site<D> {
         requires stage { self.old.core.stage ≡ Stage.Serving }
         requires round { IsClearRound self.old.core step.Have }
         ensures run { OnOk result (Keeps D.state self.old self.new) }
-        ensures told { OnOk result (TellsOne self.old.history.events self.new.history.events) }
+        ensures told { OnOk result (TellsBy IsOfRound D.state self.old self.new) }
         ensures refused { OnErr result (self.new.history.events ≡ self.old.history.events) }
         ensures fixed { IsSameRun self.old self.new }
-        ensures cause { SiteCause (states_of D.state self.old.bay) (states_of D.state self.new.bay) result }
+        ensures still { IfOk result (λ turn. Stays turn self.old self.new) }
+        ensures moved { IfOk result (λ turn. turn ≡ Turn.Moved) }
     {
         match self.core.kept.newest() {
             Some(best) => {
@@ -184,10 +213,11 @@ impl<D: Device> Site<D> {
         requires stage { self.old.core.stage ≡ Stage.Serving }
         requires round { IsClearRound self.old.core step.Restart }
         ensures run { OnOk result (Keeps D.state self.old self.new) }
-        ensures told { OnOk result (TellsOne self.old.history.events self.new.history.events) }
+        ensures told { OnOk result (TellsBy IsOfRound D.state self.old self.new) }
         ensures refused { OnErr result (self.new.history.events ≡ self.old.history.events) }
         ensures fixed { IsSameRun self.old self.new }
-        ensures cause { SiteCause (states_of D.state self.old.bay) (states_of D.state self.new.bay) result }
+        ensures still { IfOk result (λ turn. Stays turn self.old self.new) }
+        ensures moved { IfOk result (λ turn. turn ≡ Turn.Moved) }
     {
         let Some(which) = self.core.offer else {
             return Err(SiteError::Memory);
@@ -203,10 +233,11 @@ impl<D: Device> Site<D> {
         requires stage { self.old.core.stage ≡ Stage.Serving }
         requires round { IsClearRound self.old.core (step.Restarted valid) }
         ensures run { OnOk result (Keeps D.state self.old self.new) }
-        ensures told { OnOk result (TellsOne self.old.history.events self.new.history.events) }
+        ensures told { OnOk result (TellsBy IsOfRound D.state self.old self.new) }
         ensures refused { OnErr result (self.new.history.events ≡ self.old.history.events) }
         ensures fixed { IsSameRun self.old self.new }
-        ensures cause { SiteCause (states_of D.state self.old.bay) (states_of D.state self.new.bay) result }
+        ensures still { IfOk result (λ turn. Stays turn self.old self.new) }
+        ensures moved { IfOk result (λ turn. turn ≡ Turn.Moved) }
     {
         if !self.core.ranks.is_valid() {
             return Err(SiteError::Memory);
@@ -219,10 +250,11 @@ impl<D: Device> Site<D> {
         requires stage { self.old.core.stage ≡ Stage.Serving }
         requires round { IsClearRound self.old.core step.End }
         ensures run { OnOk result (Keeps D.state self.old self.new) }
-        ensures told { OnOk result (TellsOne self.old.history.events self.new.history.events) }
+        ensures told { OnOk result (TellsBy IsOfRound D.state self.old self.new) }
         ensures refused { OnErr result (self.new.history.events ≡ self.old.history.events) }
         ensures fixed { IsSameRun self.old self.new }
-        ensures cause { SiteCause (states_of D.state self.old.bay) (states_of D.state self.new.bay) result }
+        ensures still { IfOk result (λ turn. Stays turn self.old self.new) }
+        ensures moved { IfOk result (λ turn. turn ≡ Turn.Moved) }
     {
         if !self.core.all_ended() {
             return Err(SiteError::Memory);

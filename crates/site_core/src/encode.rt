@@ -2,11 +2,17 @@
 ghost use Rattle.std.specs.Prelude.{◌≡◌, ◌+◌, ◌-◌, ◌*◌, ◌<◌, ◌≤◌, ◌^◌, true, false, None, Some, length, map, IfOk, OnOk, OnErr};
 ghost use Rattle.node_device.specs.Rack.{states_of};
 ghost use Rattle.site_core.specs.declared.core_state.Work.TheVariants as work;
-ghost use Rattle.site_core.specs.Causes.{SiteCause};
-ghost use Rattle.site_core.specs.Follows.{Keeps, TellsOne, IsSameRun, IsSavingAt};
+ghost use Rattle.site_core.specs.declared.cache.Manifest.{Manifest};
+ghost use Rattle.scr_base.specs.declared.answers.Refusal.{Refusal};
+ghost use Rattle.site_core.specs.Cores.{dropping_core};
+ghost use Rattle.std.specs.Prelude.{if◌then◌else◌};
+ghost use Rattle.site_core.specs.Choosing.{is_to_save};
+ghost use Rattle.site_core.specs.Waiting.{encoder_turn};
+ghost use Rattle.site_core.specs.Causes.{told_trouble};
+ghost use Rattle.site_core.specs.Follows.{Keeps, TellsBy, IsOfWorker, IsSameRun, Stays, IsSavingAt};
 
 use crate::core_state::{Stage, Work};
-use crate::error::SiteError;
+use crate::error::{SiteError, Trouble};
 use crate::file_calls::{put_gate, put_member, sync_node};
 use crate::site::Site;
 use crate::turn::{Turn, Why};
@@ -18,15 +24,22 @@ impl<D: Device> Site<D> {
     /// The encoder's turn.
     pub(crate) fn encode(&mut self) -> Result<Turn, SiteError>
         ensures run { OnOk result (Keeps D.state self.old self.new) }
-        ensures told { OnOk result (TellsOne self.old.history.events self.new.history.events) }
+        ensures told { OnOk result (TellsBy IsOfWorker D.state self.old self.new) }
         ensures refused { OnErr result (self.new.history.events ≡ self.old.history.events) }
         ensures fixed { IsSameRun self.old self.new }
-        ensures cause { SiteCause (states_of D.state self.old.bay) (states_of D.state self.new.bay) result }
+        ensures still { IfOk result (λ turn. Stays turn self.old self.new) }
+        ensures waits { IfOk result (λ turn. turn ≡ encoder_turn self.old.core.stage self.old.core) }
     {
         match self.core.stage {
             Stage::Serving => self.begin_saving(),
             Stage::Saving { work, node } => self.save(work, node),
-            _ => Ok(self.rest()),
+            Stage::Begun
+            | Stage::Storing
+            | Stage::Looking
+            | Stage::Mending
+            | Stage::Dropping { .. }
+            | Stage::Dropped => Ok(Turn::NotYet { why: Why::Idle }),
+            Stage::Stopped | Stage::Cut => Ok(Turn::Ended),
         }
     }
 
@@ -34,10 +47,11 @@ impl<D: Device> Site<D> {
     fn begin_saving(&mut self) -> Result<Turn, SiteError>
         requires stage { self.old.core.stage ≡ Stage.Serving }
         ensures run { OnOk result (Keeps D.state self.old self.new) }
-        ensures told { OnOk result (TellsOne self.old.history.events self.new.history.events) }
+        ensures told { OnOk result (TellsBy IsOfWorker D.state self.old self.new) }
         ensures refused { OnErr result (self.new.history.events ≡ self.old.history.events) }
         ensures fixed { IsSameRun self.old self.new }
-        ensures cause { SiteCause (states_of D.state self.old.bay) (states_of D.state self.new.bay) result }
+        ensures still { IfOk result (λ turn. Stays turn self.old self.new) }
+        ensures waits { IfOk result (λ turn. turn ≡ (if is_to_save self.old.core then Turn.Moved else Turn.NotYet Why.Idle)) }
     {
         let asked = self.core.is_to_save(self.alloc)?;
         let true = asked else {
@@ -50,10 +64,11 @@ impl<D: Device> Site<D> {
     fn save(&mut self, work: Work, node: u8) -> Result<Turn, SiteError>
         requires stage { self.old.core.stage ≡ Stage.Saving work node }
         ensures run { OnOk result (Keeps D.state self.old self.new) }
-        ensures told { OnOk result (TellsOne self.old.history.events self.new.history.events) }
+        ensures told { OnOk result (TellsBy IsOfWorker D.state self.old self.new) }
         ensures refused { OnErr result (self.new.history.events ≡ self.old.history.events) }
         ensures fixed { IsSameRun self.old self.new }
-        ensures cause { SiteCause (states_of D.state self.old.bay) (states_of D.state self.new.bay) result }
+        ensures still { IfOk result (λ turn. Stays turn self.old self.new) }
+        ensures moved { IfOk result (λ turn. turn ≡ Turn.Moved) }
     {
         match work {
             Work::Record => self.write_record(node),
@@ -69,10 +84,11 @@ impl<D: Device> Site<D> {
     fn write_record(&mut self, node: u8) -> Result<Turn, SiteError>
         requires saving { IsSavingAt D.state self.old work.Record node }
         ensures run { OnOk result (Keeps D.state self.old self.new) }
-        ensures told { OnOk result (TellsOne self.old.history.events self.new.history.events) }
+        ensures told { OnOk result (TellsBy IsOfWorker D.state self.old self.new) }
         ensures refused { OnErr result (self.new.history.events ≡ self.old.history.events) }
         ensures fixed { IsSameRun self.old self.new }
-        ensures cause { SiteCause (states_of D.state self.old.bay) (states_of D.state self.new.bay) result }
+        ensures still { IfOk result (λ turn. Stays turn self.old self.new) }
+        ensures moved { IfOk result (λ turn. turn ≡ Turn.Moved) }
     {
         let Some(place) = self.core.places.of_node(node) else {
             return Err(SiteError::Memory);
@@ -85,39 +101,49 @@ impl<D: Device> Site<D> {
         {
             return Err(SiteError::Memory);
         }
-        put_member(self.alloc, &mut self.bay, place, node, &m.desc, &m.files)?;
-        self.core.stage = Stage::Saving {
-            work: Work::RecordSync,
-            node,
-        };
-        Ok(Turn::Moved)
+        match put_member(self.alloc, &mut self.bay, place, node, &m.desc, &m.files) {
+            Ok(()) => {
+                self.core.stage = Stage::Saving {
+                    work: Work::RecordSync,
+                    node,
+                };
+                Ok(Turn::Moved)
+            }
+            Err(trouble) => self.carry(trouble),
+        }
     }
 
     /// A node's record is made stable.
     fn sync_record(&mut self, node: u8) -> Result<Turn, SiteError>
         requires stage { self.old.core.stage ≡ Stage.Saving Work.RecordSync node }
         ensures run { OnOk result (Keeps D.state self.old self.new) }
-        ensures told { OnOk result (TellsOne self.old.history.events self.new.history.events) }
+        ensures told { OnOk result (TellsBy IsOfWorker D.state self.old self.new) }
         ensures refused { OnErr result (self.new.history.events ≡ self.old.history.events) }
         ensures fixed { IsSameRun self.old self.new }
-        ensures cause { SiteCause (states_of D.state self.old.bay) (states_of D.state self.new.bay) result }
+        ensures still { IfOk result (λ turn. Stays turn self.old self.new) }
+        ensures moved { IfOk result (λ turn. turn ≡ Turn.Moved) }
     {
         let Some(place) = self.core.places.of_node(node) else {
             return Err(SiteError::Memory);
         };
-        sync_node(&mut self.bay, place)?;
-        self.core.stage = self.core.after(node, Work::Record, Work::Whole);
-        Ok(Turn::Moved)
+        match sync_node(&mut self.bay, place) {
+            Ok(()) => {
+                self.core.stage = self.core.after(node, Work::Record, Work::Whole);
+                Ok(Turn::Moved)
+            }
+            Err(trouble) => self.carry(trouble),
+        }
     }
 
     /// A node's gate `whole` is opened.
     fn open_whole(&mut self, node: u8) -> Result<Turn, SiteError>
         requires stage { self.old.core.stage ≡ Stage.Saving Work.Whole node }
         ensures run { OnOk result (Keeps D.state self.old self.new) }
-        ensures told { OnOk result (TellsOne self.old.history.events self.new.history.events) }
+        ensures told { OnOk result (TellsBy IsOfWorker D.state self.old self.new) }
         ensures refused { OnErr result (self.new.history.events ≡ self.old.history.events) }
         ensures fixed { IsSameRun self.old self.new }
-        ensures cause { SiteCause (states_of D.state self.old.bay) (states_of D.state self.new.bay) result }
+        ensures still { IfOk result (λ turn. Stays turn self.old self.new) }
+        ensures moved { IfOk result (λ turn. turn ≡ Turn.Moved) }
     {
         let Some(place) = self.core.places.of_node(node) else {
             return Err(SiteError::Memory);
@@ -125,39 +151,49 @@ impl<D: Device> Site<D> {
         let Some(which) = self.core.saved() else {
             return Err(SiteError::Memory);
         };
-        put_gate(&mut self.bay, place, which, node, MemberGate::Whole)?;
-        self.core.stage = Stage::Saving {
-            work: Work::WholeSync,
-            node,
-        };
-        Ok(Turn::Moved)
+        match put_gate(&mut self.bay, place, which, node, MemberGate::Whole) {
+            Ok(()) => {
+                self.core.stage = Stage::Saving {
+                    work: Work::WholeSync,
+                    node,
+                };
+                Ok(Turn::Moved)
+            }
+            Err(trouble) => self.stop_by_fault(trouble),
+        }
     }
 
     /// A node's gate `whole` is made stable.
     fn sync_whole(&mut self, node: u8) -> Result<Turn, SiteError>
         requires stage { self.old.core.stage ≡ Stage.Saving Work.WholeSync node }
         ensures run { OnOk result (Keeps D.state self.old self.new) }
-        ensures told { OnOk result (TellsOne self.old.history.events self.new.history.events) }
+        ensures told { OnOk result (TellsBy IsOfWorker D.state self.old self.new) }
         ensures refused { OnErr result (self.new.history.events ≡ self.old.history.events) }
         ensures fixed { IsSameRun self.old self.new }
-        ensures cause { SiteCause (states_of D.state self.old.bay) (states_of D.state self.new.bay) result }
+        ensures still { IfOk result (λ turn. Stays turn self.old self.new) }
+        ensures moved { IfOk result (λ turn. turn ≡ Turn.Moved) }
     {
         let Some(place) = self.core.places.of_node(node) else {
             return Err(SiteError::Memory);
         };
-        sync_node(&mut self.bay, place)?;
-        self.core.stage = self.core.after(node, Work::Whole, Work::Sealed);
-        Ok(Turn::Moved)
+        match sync_node(&mut self.bay, place) {
+            Ok(()) => {
+                self.core.stage = self.core.after(node, Work::Whole, Work::Sealed);
+                Ok(Turn::Moved)
+            }
+            Err(trouble) => self.stop_by_fault(trouble),
+        }
     }
 
     /// A node's gate `sealed` is opened; at the first, the dataset is in cache.
     fn open_sealed(&mut self, node: u8) -> Result<Turn, SiteError>
         requires stage { self.old.core.stage ≡ Stage.Saving Work.Sealed node }
         ensures run { OnOk result (Keeps D.state self.old self.new) }
-        ensures told { OnOk result (TellsOne self.old.history.events self.new.history.events) }
+        ensures told { OnOk result (TellsBy IsOfWorker D.state self.old self.new) }
         ensures refused { OnErr result (self.new.history.events ≡ self.old.history.events) }
         ensures fixed { IsSameRun self.old self.new }
-        ensures cause { SiteCause (states_of D.state self.old.bay) (states_of D.state self.new.bay) result }
+        ensures still { IfOk result (λ turn. Stays turn self.old self.new) }
+        ensures moved { IfOk result (λ turn. turn ≡ Turn.Moved) }
     {
         match &self.core.opened {
             Some(_) => self.seal_first(node),
@@ -169,10 +205,11 @@ impl<D: Device> Site<D> {
     fn seal_first(&mut self, node: u8) -> Result<Turn, SiteError>
         requires stage { self.old.core.stage ≡ Stage.Saving Work.Sealed node }
         ensures run { OnOk result (Keeps D.state self.old self.new) }
-        ensures told { OnOk result (TellsOne self.old.history.events self.new.history.events) }
+        ensures told { OnOk result (TellsBy IsOfWorker D.state self.old self.new) }
         ensures refused { OnErr result (self.new.history.events ≡ self.old.history.events) }
         ensures fixed { IsSameRun self.old self.new }
-        ensures cause { SiteCause (states_of D.state self.old.bay) (states_of D.state self.new.bay) result }
+        ensures still { IfOk result (λ turn. Stays turn self.old self.new) }
+        ensures moved { IfOk result (λ turn. turn ≡ Turn.Moved) }
     {
         let Some(place) = self.core.places.of_node(node) else {
             return Err(SiteError::Memory);
@@ -183,24 +220,29 @@ impl<D: Device> Site<D> {
         let which = m.desc.which;
         self.history.reserve(1)?;
         self.core.kept.reserve()?;
-        put_gate(&mut self.bay, place, which, node, MemberGate::Sealed)?;
-        self.core.seal()?;
-        self.history.push(Event::Sealing { which })?;
-        self.core.stage = Stage::Saving {
-            work: Work::SealedSync,
-            node,
-        };
-        Ok(Turn::Moved)
+        match put_gate(&mut self.bay, place, which, node, MemberGate::Sealed) {
+            Ok(()) => {
+                self.core.seal()?;
+                self.history.push(Event::Sealing { which })?;
+                self.core.stage = Stage::Saving {
+                    work: Work::SealedSync,
+                    node,
+                };
+                Ok(Turn::Moved)
+            }
+            Err(trouble) => self.stop_by_fault(trouble),
+        }
     }
 
     /// A later node's gate `sealed` is opened.
     fn seal_next(&mut self, node: u8) -> Result<Turn, SiteError>
         requires stage { self.old.core.stage ≡ Stage.Saving Work.Sealed node }
         ensures run { OnOk result (Keeps D.state self.old self.new) }
-        ensures told { OnOk result (TellsOne self.old.history.events self.new.history.events) }
+        ensures told { OnOk result (TellsBy IsOfWorker D.state self.old self.new) }
         ensures refused { OnErr result (self.new.history.events ≡ self.old.history.events) }
         ensures fixed { IsSameRun self.old self.new }
-        ensures cause { SiteCause (states_of D.state self.old.bay) (states_of D.state self.new.bay) result }
+        ensures still { IfOk result (λ turn. Stays turn self.old self.new) }
+        ensures moved { IfOk result (λ turn. turn ≡ Turn.Moved) }
     {
         let Some(place) = self.core.places.of_node(node) else {
             return Err(SiteError::Memory);
@@ -208,22 +250,27 @@ impl<D: Device> Site<D> {
         let Some(which) = self.core.saved() else {
             return Err(SiteError::Memory);
         };
-        put_gate(&mut self.bay, place, which, node, MemberGate::Sealed)?;
-        self.core.stage = Stage::Saving {
-            work: Work::SealedSync,
-            node,
-        };
-        Ok(Turn::Moved)
+        match put_gate(&mut self.bay, place, which, node, MemberGate::Sealed) {
+            Ok(()) => {
+                self.core.stage = Stage::Saving {
+                    work: Work::SealedSync,
+                    node,
+                };
+                Ok(Turn::Moved)
+            }
+            Err(trouble) => self.stop_by_fault(trouble),
+        }
     }
 
     /// A node's gate `sealed` is made stable; after the last, the dataset is settled.
     fn sync_sealed(&mut self, node: u8) -> Result<Turn, SiteError>
         requires stage { self.old.core.stage ≡ Stage.Saving Work.SealedSync node }
         ensures run { OnOk result (Keeps D.state self.old self.new) }
-        ensures told { OnOk result (TellsOne self.old.history.events self.new.history.events) }
+        ensures told { OnOk result (TellsBy IsOfWorker D.state self.old self.new) }
         ensures refused { OnErr result (self.new.history.events ≡ self.old.history.events) }
         ensures fixed { IsSameRun self.old self.new }
-        ensures cause { SiteCause (states_of D.state self.old.bay) (states_of D.state self.new.bay) result }
+        ensures still { IfOk result (λ turn. Stays turn self.old self.new) }
+        ensures moved { IfOk result (λ turn. turn ≡ Turn.Moved) }
     {
         if node < self.core.shape.nodes - 1 {
             self.sync_next(node)
@@ -237,20 +284,25 @@ impl<D: Device> Site<D> {
         requires stage { self.old.core.stage ≡ Stage.Saving Work.SealedSync node }
         requires more { node < self.old.core.shape.nodes - 1 }
         ensures run { OnOk result (Keeps D.state self.old self.new) }
-        ensures told { OnOk result (TellsOne self.old.history.events self.new.history.events) }
+        ensures told { OnOk result (TellsBy IsOfWorker D.state self.old self.new) }
         ensures refused { OnErr result (self.new.history.events ≡ self.old.history.events) }
         ensures fixed { IsSameRun self.old self.new }
-        ensures cause { SiteCause (states_of D.state self.old.bay) (states_of D.state self.new.bay) result }
+        ensures still { IfOk result (λ turn. Stays turn self.old self.new) }
+        ensures moved { IfOk result (λ turn. turn ≡ Turn.Moved) }
     {
         let Some(place) = self.core.places.of_node(node) else {
             return Err(SiteError::Memory);
         };
-        sync_node(&mut self.bay, place)?;
-        self.core.stage = Stage::Saving {
-            work: Work::Sealed,
-            node: node + 1,
-        };
-        Ok(Turn::Moved)
+        match sync_node(&mut self.bay, place) {
+            Ok(()) => {
+                self.core.stage = Stage::Saving {
+                    work: Work::Sealed,
+                    node: node + 1,
+                };
+                Ok(Turn::Moved)
+            }
+            Err(trouble) => self.stop_by_fault(trouble),
+        }
     }
 
     /// The last gate `sealed` is made stable: the dataset is settled.
@@ -258,10 +310,11 @@ impl<D: Device> Site<D> {
         requires stage { self.old.core.stage ≡ Stage.Saving Work.SealedSync node }
         requires last { self.old.core.shape.nodes ≤ node + 1 }
         ensures run { OnOk result (Keeps D.state self.old self.new) }
-        ensures told { OnOk result (TellsOne self.old.history.events self.new.history.events) }
+        ensures told { OnOk result (TellsBy IsOfWorker D.state self.old self.new) }
         ensures refused { OnErr result (self.new.history.events ≡ self.old.history.events) }
         ensures fixed { IsSameRun self.old self.new }
-        ensures cause { SiteCause (states_of D.state self.old.bay) (states_of D.state self.new.bay) result }
+        ensures still { IfOk result (λ turn. Stays turn self.old self.new) }
+        ensures moved { IfOk result (λ turn. turn ≡ Turn.Moved) }
     {
         let Some(place) = self.core.places.of_node(node) else {
             return Err(SiteError::Memory);
@@ -276,9 +329,31 @@ impl<D: Device> Site<D> {
             return Err(SiteError::Memory);
         }
         self.history.reserve(1)?;
-        sync_node(&mut self.bay, place)?;
-        self.history.push(Event::Settled { which })?;
-        self.core.settle(which);
+        match sync_node(&mut self.bay, place) {
+            Ok(()) => {
+                self.history.push(Event::Settled { which })?;
+                self.core.settle(which);
+                Ok(Turn::Moved)
+            }
+            Err(trouble) => self.stop_by_fault(trouble),
+        }
+    }
+
+    /// A device refused the round, which carries that; the dataset is to be removed. After want of memory all is as before.
+    fn carry(&mut self, trouble: Trouble) -> Result<Turn, SiteError>
+        ensures core { OnOk result ((set : Manifest) × (refusal : Refusal) × (self.old.core.opened ≡ Some set) × (told_trouble trouble ≡ Some refusal) × (self.new.core ≡ dropping_core self.old.core set.desc.which (Some refusal))) }
+        ensures moved { IfOk result (λ turn. turn ≡ Turn.Moved) }
+        ensures refused { OnErr result (self.new ≡ self.old) }
+        ensures history { self.new.history ≡ self.old.history }
+        ensures fixed { IsSameRun self.old self.new }
+        ensures bay { self.new.bay ≡ self.old.bay }
+    {
+        let refusal = trouble.refusal()?;
+        let Some(set) = &self.core.opened else {
+            return Err(SiteError::Memory);
+        };
+        let which = set.desc.which;
+        self.core.begin_dropping(which, Some(refusal));
         Ok(Turn::Moved)
     }
 }

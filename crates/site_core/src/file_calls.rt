@@ -1,19 +1,21 @@
 // What the moves do to a bay's devices, with the refusals as the site's.
-ghost use Rattle.std.specs.Prelude.{◌≡◌, ◌≤◌, ◌<◌, ◌*◌, ℕ, IfOk, OnOk, true, length, codes, take, drop};
+ghost use Rattle.std.specs.Prelude.{◌≡◌, ◌≤◌, ◌<◌, ◌*◌, ℕ, IfOk, OnOk, OnErr, true, length, codes, take, drop};
 ghost use Rattle.node_device.specs.File.{bytes_of};
 ghost use Rattle.node_device.specs.Rack.{states_of, OnlyAt};
 ghost use Rattle.gated_record.specs.PairSteps.{StepsPair};
 ghost use Rattle.member_store.specs.Calls.{gate_number};
 ghost use Rattle.member_store.specs.Names.{record_name, part_name};
 ghost use Rattle.member_store.specs.Members.{AreMembers, member_body};
-ghost use Rattle.site_core.specs.Calls.{Same, Written, Synced, Recorded, Turned};
-ghost use Rattle.site_core.specs.Causes.{SiteCause};
+ghost use Rattle.site_core.specs.Calls.{Same, Written, Synced, Recorded, Turned, Refused, KeptAlike, FileDropped};
+ghost use Rattle.site_core.specs.Causes.{CallCause};
 ghost use Rattle.site_core.specs.Stored.{cells_of, stored_run};
 
 use crate::bay_calls::{
-    load_number, open_gate_at, read_part_at, scan_at, step_number, write_member_at, write_part_at,
+    drop_file_at, load_number, open_gate_at, read_part_at, scan_at, step_number, write_member_at,
+    write_part_at,
 };
-use crate::error::{SiteError, refusal};
+use crate::error::{Trouble, trouble_at};
+use crate::removal::Removal;
 use crate::storing::Storing;
 use dataset_desc::Desc;
 use filemap::Filemap;
@@ -23,15 +25,15 @@ use scr_base::{DataId, Shape};
 use std::alloc::Global;
 
 /// The number of the last run, 0 for none.
-pub(crate) fn last_run<D: Device>(alloc: Global, bay: &mut Bay<D>) -> Result<u32, SiteError>
+pub(crate) fn last_run<D: Device>(alloc: Global, bay: &mut Bay<D>) -> Result<u32, Trouble>
     ensures run { IfOk result (λ run. (states_of D.state bay.old 32).tells ≡ true → run ≡ stored_run (cells_of (states_of D.state bay.old))) }
     ensures same { OnOk result (OnlyAt 32 Same (states_of D.state bay.old) (states_of D.state bay.new)) }
-    ensures cause { SiteCause (states_of D.state bay.old) (states_of D.state bay.new) result }
+    ensures cause { CallCause (states_of D.state bay.old) (states_of D.state bay.new) result }
 {
     match load_number(alloc, bay) {
         Ok(None) => Ok(0),
         Ok(Some(value)) => Ok(value.version),
-        Err(error) => Err(refusal(bay, 32, error)),
+        Err(error) => Err(trouble_at(bay, 32, error)),
     }
 }
 
@@ -40,20 +42,20 @@ pub(crate) fn store_number<D: Device>(
     alloc: Global,
     bay: &mut Bay<D>,
     storing: &mut Storing,
-) -> Result<bool, SiteError>
+) -> Result<bool, Trouble>
     ensures want { storing.new.want ≡ storing.old.want }
     ensures steps { IfOk result (λ over. OnlyAt 32 (λ a b. StepsPair (codes "run") storing.old.want (Rattle.std.specs.Prelude.Ok over) storing.old.changes storing.new.changes a b) (states_of D.state bay.old) (states_of D.state bay.new)) }
-    ensures cause { SiteCause (states_of D.state bay.old) (states_of D.state bay.new) result }
+    ensures cause { CallCause (states_of D.state bay.old) (states_of D.state bay.new) result }
 {
     let used = bay.used_at(32);
     match step_number(alloc, bay, storing) {
         Ok(over) => Ok(over),
-        Err(DevError::Full) => Err(SiteError::Full {
+        Err(DevError::Full) => Err(Trouble::Full {
             node: 32,
             used,
             capacity: bay.capacity_at(32),
         }),
-        Err(error) => Err(refusal(bay, 32, error)),
+        Err(error) => Err(trouble_at(bay, 32, error)),
     }
 }
 
@@ -63,15 +65,15 @@ pub(crate) fn members_at<D: Device>(
     bay: &mut Bay<D>,
     place: u8,
     shape: Shape,
-) -> Result<Vec<Member>, SiteError>
+) -> Result<Vec<Member>, Trouble>
     requires { place < 32 }
     ensures members { IfOk result (λ members. (states_of D.state bay.old place).tells ≡ true → AreMembers shape (states_of D.state bay.old place) members.items) }
     ensures same { OnOk result (OnlyAt place Same (states_of D.state bay.old) (states_of D.state bay.new)) }
-    ensures cause { SiteCause (states_of D.state bay.old) (states_of D.state bay.new) result }
+    ensures cause { CallCause (states_of D.state bay.old) (states_of D.state bay.new) result }
 {
     match scan_at(alloc, bay, place, shape) {
         Ok(members) => Ok(members),
-        Err(error) => Err(refusal(bay, place, error)),
+        Err(error) => Err(trouble_at(bay, place, error)),
     }
 }
 
@@ -84,14 +86,15 @@ pub(crate) fn put_part<D: Device>(
     part: Part,
     at: u64,
     bytes: &[u8],
-) -> Result<(), SiteError>
+) -> Result<(), Trouble>
     requires { place < 32 }
     ensures written { OnOk result (OnlyAt place (Written (part_name which node part) at bytes.now) (states_of D.state bay.old) (states_of D.state bay.new)) }
-    ensures cause { SiteCause (states_of D.state bay.old) (states_of D.state bay.new) result }
+    ensures refused { OnErr result (OnlyAt place (Refused (part_name which node part)) (states_of D.state bay.old) (states_of D.state bay.new)) }
+    ensures cause { CallCause (states_of D.state bay.old) (states_of D.state bay.new) result }
 {
     match write_part_at(bay, place, which, node, part, at, bytes) {
         Ok(()) => Ok(()),
-        Err(error) => Err(refusal(bay, place, error)),
+        Err(error) => Err(trouble_at(bay, place, error)),
     }
 }
 
@@ -104,15 +107,16 @@ pub(crate) fn get_part<D: Device>(
     part: Part,
     at: u64,
     into: &mut [u8],
-) -> Result<(), SiteError>
+) -> Result<(), Trouble>
     requires { place < 32 }
     ensures bytes { OnOk result ((states_of D.state bay.old place).tells ≡ true → into.new ≡ take (length into.old) (drop at (bytes_of ((states_of D.state bay.old place).file (part_name which node part)).now))) }
     ensures same { OnOk result (OnlyAt place Same (states_of D.state bay.old) (states_of D.state bay.new)) }
-    ensures cause { SiteCause (states_of D.state bay.old) (states_of D.state bay.new) result }
+    ensures refused { OnErr result (OnlyAt place KeptAlike (states_of D.state bay.old) (states_of D.state bay.new)) }
+    ensures cause { CallCause (states_of D.state bay.old) (states_of D.state bay.new) result }
 {
     match read_part_at(bay, place, which, node, part, at, into) {
         Ok(()) => Ok(()),
-        Err(error) => Err(refusal(bay, place, error)),
+        Err(error) => Err(trouble_at(bay, place, error)),
     }
 }
 
@@ -124,16 +128,17 @@ pub(crate) fn put_member<D: Device>(
     node: u8,
     desc: &Desc,
     files: &Filemap,
-) -> Result<(), SiteError>
+) -> Result<(), Trouble>
     requires place { place < 32 }
     requires node { node < desc.now.nodes }
     requires ranks { length files.now ≡ desc.now.nodes * desc.now.ranks }
+    ensures refused { OnErr result (OnlyAt place (Refused (record_name desc.now.which node)) (states_of D.state bay.old) (states_of D.state bay.new)) }
     ensures recorded { OnOk result (OnlyAt place (Recorded (record_name desc.now.which node) (member_body desc.now node files.now)) (states_of D.state bay.old) (states_of D.state bay.new)) }
-    ensures cause { SiteCause (states_of D.state bay.old) (states_of D.state bay.new) result }
+    ensures cause { CallCause (states_of D.state bay.old) (states_of D.state bay.new) result }
 {
     match write_member_at(alloc, bay, place, node, desc, files) {
         Ok(()) => Ok(()),
-        Err(error) => Err(refusal(bay, place, error)),
+        Err(error) => Err(trouble_at(bay, place, error)),
     }
 }
 
@@ -144,25 +149,46 @@ pub(crate) fn put_gate<D: Device>(
     which: DataId,
     node: u8,
     gate: MemberGate,
-) -> Result<(), SiteError>
+) -> Result<(), Trouble>
     requires { place < 32 }
     ensures turned { OnOk result (OnlyAt place (Turned (record_name which node) (gate_number gate)) (states_of D.state bay.old) (states_of D.state bay.new)) }
-    ensures cause { SiteCause (states_of D.state bay.old) (states_of D.state bay.new) result }
+    ensures cause { CallCause (states_of D.state bay.old) (states_of D.state bay.new) result }
 {
     match open_gate_at(bay, place, which, node, gate) {
         Ok(()) => Ok(()),
-        Err(error) => Err(refusal(bay, place, error)),
+        Err(error) => Err(trouble_at(bay, place, error)),
     }
 }
 
 /// Makes a node stable.
-pub(crate) fn sync_node<D: Device>(bay: &mut Bay<D>, place: u8) -> Result<(), SiteError>
+pub(crate) fn sync_node<D: Device>(bay: &mut Bay<D>, place: u8) -> Result<(), Trouble>
     requires { place < 32 }
+    ensures refused { OnErr result (OnlyAt place KeptAlike (states_of D.state bay.old) (states_of D.state bay.new)) }
     ensures synced { OnOk result (OnlyAt place Synced (states_of D.state bay.old) (states_of D.state bay.new)) }
-    ensures cause { SiteCause (states_of D.state bay.old) (states_of D.state bay.new) result }
+    ensures cause { CallCause (states_of D.state bay.old) (states_of D.state bay.new) result }
 {
     match bay.sync_at(place) {
         Ok(()) => Ok(()),
-        Err(error) => Err(refusal(bay, place, error)),
+        Err(error) => Err(trouble_at(bay, place, error)),
+    }
+}
+
+/// Removes one file of a member, at most; true exactly where nothing is left to do.
+pub(crate) fn drop_file<D: Device>(
+    alloc: Global,
+    bay: &mut Bay<D>,
+    place: u8,
+    removal: &mut Removal,
+) -> Result<bool, Trouble>
+    requires { place < 32 }
+    ensures which { removal.new.which ≡ removal.old.which }
+    ensures node { removal.new.node ≡ removal.old.node }
+    ensures dropped { IfOk result (λ over. OnlyAt place (FileDropped removal.old.which removal.old.node over removal.old.changes removal.new.changes) (states_of D.state bay.old) (states_of D.state bay.new)) }
+    ensures stays { OnErr result (removal.new ≡ removal.old) }
+    ensures cause { CallCause (states_of D.state bay.old) (states_of D.state bay.new) result }
+{
+    match drop_file_at(alloc, bay, place, removal) {
+        Ok(over) => Ok(over),
+        Err(error) => Err(trouble_at(bay, place, error)),
     }
 }

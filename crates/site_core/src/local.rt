@@ -3,15 +3,18 @@ ghost use Rattle.std.specs.Prelude.{◌≡◌, ◌+◌, ◌*◌, ◌<◌, ◌≤
 ghost use Rattle.ckpt_model.specs.declared.event.Event.TheVariants as event;
 ghost use Rattle.round_core.specs.declared.seat.Seat.{Seat};
 ghost use Rattle.round_core.specs.Seats.{stepped};
+ghost use Rattle.ckpt_model.specs.Answers.{is_fault};
 ghost use Rattle.node_device.specs.Rack.{states_of};
 ghost use Rattle.scr_base.specs.declared.content.Step.TheVariants as step;
 ghost use Rattle.filemap.specs.Rows.{place_of, is_routed};
 ghost use Rattle.site_core.specs.Choosing.{local_verdict_of, rows_at};
-ghost use Rattle.site_core.specs.Causes.{SiteCause};
-ghost use Rattle.site_core.specs.Follows.{Keeps, TellsOne, IsSameRun, IsNextLocal, MayTell};
+ghost use Rattle.scr_base.specs.declared.answers.Refusal.{Refusal};
+ghost use Rattle.scr_base.specs.declared.answers.Reply.TheVariants as reply;
+ghost use Rattle.site_core.specs.Causes.{told_trouble};
+ghost use Rattle.site_core.specs.Follows.{Keeps, TellsBy, IsOfRank, IsSameRun, Stays, IsNextLocal, MayTell};
 
 use crate::core_state::Stage;
-use crate::error::SiteError;
+use crate::error::{SiteError, Trouble};
 use crate::file_calls::{get_part, put_part};
 use crate::site::Site;
 use crate::turn::Turn;
@@ -27,10 +30,11 @@ impl<D: Device> Site<D> {
         requires stage { self.old.core.stage ≡ Stage.Serving }
         requires next { IsNextLocal self.old.programs self.old.core rank step }
         ensures run { OnOk result (Keeps D.state self.old self.new) }
-        ensures told { OnOk result (TellsOne self.old.history.events self.new.history.events) }
+        ensures told { OnOk result (TellsBy (IsOfRank rank) D.state self.old self.new) }
         ensures refused { OnErr result (self.new.history.events ≡ self.old.history.events) }
         ensures fixed { IsSameRun self.old self.new }
-        ensures cause { SiteCause (states_of D.state self.old.bay) (states_of D.state self.new.bay) result }
+        ensures still { IfOk result (λ turn. Stays turn self.old self.new) }
+        ensures moved { IfOk result (λ turn. turn ≡ Turn.Moved) }
     {
         let verdict = self.core.local_verdict(self.alloc, rank, &step)?;
         match verdict {
@@ -45,10 +49,11 @@ impl<D: Device> Site<D> {
         requires next { IsNextLocal self.old.programs self.old.core rank step }
         requires clear { local_verdict_of self.old.core rank step ≡ None }
         ensures run { OnOk result (Keeps D.state self.old self.new) }
-        ensures told { OnOk result (TellsOne self.old.history.events self.new.history.events) }
+        ensures told { OnOk result (TellsBy (IsOfRank rank) D.state self.old self.new) }
         ensures refused { OnErr result (self.new.history.events ≡ self.old.history.events) }
         ensures fixed { IsSameRun self.old self.new }
-        ensures cause { SiteCause (states_of D.state self.old.bay) (states_of D.state self.new.bay) result }
+        ensures still { IfOk result (λ turn. Stays turn self.old self.new) }
+        ensures moved { IfOk result (λ turn. turn ≡ Turn.Moved) }
     {
         match step {
             Step::Route { name } => self.route(rank, name),
@@ -82,16 +87,33 @@ impl<D: Device> Site<D> {
         Ok(())
     }
 
+    /// A device refused the step, which is told so.
+    fn refuse_local(&mut self, rank: u8, step: Step, trouble: Trouble) -> Result<Turn, SiteError>
+        requires small { IsSomeAnd (slice_get self.old.core.ranks rank) (λ seat. seat.number + 1 < 2 ^ 32) }
+        ensures events { OnOk result ((seat : Seat) → slice_get self.old.core.ranks rank ≡ Some seat → (refusal : Refusal) × (told_trouble trouble ≡ Some refusal) × (self.new.history.events ≡ self.old.history.events ++ event.Local rank (seat.number + 1) step (reply.Refused refusal) ∷ [])) }
+        ensures core { OnOk result ((seat : Seat) → slice_get self.old.core.ranks rank ≡ Some seat → self.new.core ≡ record self.old.core { ranks = slice_set self.old.core.ranks rank (stepped seat) }) }
+        ensures moved { IfOk result (λ turn. turn ≡ Turn.Moved) }
+        ensures refused { OnErr result (self.new.history.events ≡ self.old.history.events) }
+        ensures fixed { IsSameRun self.old self.new }
+        ensures bay { self.new.bay ≡ self.old.bay }
+    {
+        let refusal = trouble.refusal()?;
+        self.go_past(rank, step, Reply::Refused { refusal })?;
+        Ok(Turn::Moved)
+    }
+
     /// The step is told with its answer; no file is changed.
     fn tell_local(&mut self, rank: u8, step: Step, answer: Reply) -> Result<Turn, SiteError>
         requires stage { self.old.core.stage ≡ Stage.Serving }
         requires next { IsNextLocal self.old.programs self.old.core rank step }
         requires steps { MayTell D.state self.old rank step answer }
+        requires calm { is_fault answer ≡ false }
         ensures run { OnOk result (Keeps D.state self.old self.new) }
-        ensures told { OnOk result (TellsOne self.old.history.events self.new.history.events) }
+        ensures told { OnOk result (TellsBy (IsOfRank rank) D.state self.old self.new) }
         ensures refused { OnErr result (self.new.history.events ≡ self.old.history.events) }
         ensures fixed { IsSameRun self.old self.new }
-        ensures cause { SiteCause (states_of D.state self.old.bay) (states_of D.state self.new.bay) result }
+        ensures still { IfOk result (λ turn. Stays turn self.old self.new) }
+        ensures moved { IfOk result (λ turn. turn ≡ Turn.Moved) }
     {
         self.go_past(rank, step, answer)?;
         Ok(Turn::Moved)
@@ -103,10 +125,11 @@ impl<D: Device> Site<D> {
         requires next { IsNextLocal self.old.programs self.old.core rank (step.Route word) }
         requires clear { local_verdict_of self.old.core rank (step.Route word) ≡ None }
         ensures run { OnOk result (Keeps D.state self.old self.new) }
-        ensures told { OnOk result (TellsOne self.old.history.events self.new.history.events) }
+        ensures told { OnOk result (TellsBy (IsOfRank rank) D.state self.old self.new) }
         ensures refused { OnErr result (self.new.history.events ≡ self.old.history.events) }
         ensures fixed { IsSameRun self.old self.new }
-        ensures cause { SiteCause (states_of D.state self.old.bay) (states_of D.state self.new.bay) result }
+        ensures still { IfOk result (λ turn. Stays turn self.old self.new) }
+        ensures moved { IfOk result (λ turn. turn ≡ Turn.Moved) }
     {
         if self.core.has_file(rank, word.bytes()) {
             self.route_again(rank, word)
@@ -122,10 +145,11 @@ impl<D: Device> Site<D> {
         requires clear { local_verdict_of self.old.core rank (step.Route word) ≡ None }
         requires there { is_routed (rows_at self.old.core rank) word ≡ true }
         ensures run { OnOk result (Keeps D.state self.old self.new) }
-        ensures told { OnOk result (TellsOne self.old.history.events self.new.history.events) }
+        ensures told { OnOk result (TellsBy (IsOfRank rank) D.state self.old self.new) }
         ensures refused { OnErr result (self.new.history.events ≡ self.old.history.events) }
         ensures fixed { IsSameRun self.old self.new }
-        ensures cause { SiteCause (states_of D.state self.old.bay) (states_of D.state self.new.bay) result }
+        ensures still { IfOk result (λ turn. Stays turn self.old self.new) }
+        ensures moved { IfOk result (λ turn. turn ≡ Turn.Moved) }
     {
         let file = self.core.number_of(rank, word.bytes());
         let Some(spot) = self.core.spot(rank, file) else {
@@ -142,10 +166,11 @@ impl<D: Device> Site<D> {
         requires clear { local_verdict_of self.old.core rank (step.Route word) ≡ None }
         requires new { is_routed (rows_at self.old.core rank) word ≡ false }
         ensures run { OnOk result (Keeps D.state self.old self.new) }
-        ensures told { OnOk result (TellsOne self.old.history.events self.new.history.events) }
+        ensures told { OnOk result (TellsBy (IsOfRank rank) D.state self.old self.new) }
         ensures refused { OnErr result (self.new.history.events ≡ self.old.history.events) }
         ensures fixed { IsSameRun self.old self.new }
-        ensures cause { SiteCause (states_of D.state self.old.bay) (states_of D.state self.new.bay) result }
+        ensures still { IfOk result (λ turn. Stays turn self.old self.new) }
+        ensures moved { IfOk result (λ turn. turn ≡ Turn.Moved) }
     {
         let file = self.core.number_of(rank, word.bytes());
         let Some(spot) = self.core.spot(rank, file) else {
@@ -156,7 +181,7 @@ impl<D: Device> Site<D> {
             return Err(SiteError::Memory);
         };
         self.history.reserve(1)?;
-        put_part(
+        match put_part(
             &mut self.bay,
             spot.place,
             spot.which,
@@ -164,10 +189,14 @@ impl<D: Device> Site<D> {
             spot.part,
             0,
             &[],
-        )?;
-        self.core.route(rank, &name)?;
-        self.go_past(rank, Step::Route { name: word }, Reply::Routed { part })?;
-        Ok(Turn::Moved)
+        ) {
+            Ok(()) => {
+                self.core.route(rank, &name)?;
+                self.go_past(rank, Step::Route { name: word }, Reply::Routed { part })?;
+                Ok(Turn::Moved)
+            }
+            Err(trouble) => self.refuse_local(rank, Step::Route { name: word }, trouble),
+        }
     }
 
     /// The file is written to.
@@ -176,10 +205,11 @@ impl<D: Device> Site<D> {
         requires next { IsNextLocal self.old.programs self.old.core rank (step.Write word at content) }
         requires clear { local_verdict_of self.old.core rank (step.Write word at content) ≡ None }
         ensures run { OnOk result (Keeps D.state self.old self.new) }
-        ensures told { OnOk result (TellsOne self.old.history.events self.new.history.events) }
+        ensures told { OnOk result (TellsBy (IsOfRank rank) D.state self.old self.new) }
         ensures refused { OnErr result (self.new.history.events ≡ self.old.history.events) }
         ensures fixed { IsSameRun self.old self.new }
-        ensures cause { SiteCause (states_of D.state self.old.bay) (states_of D.state self.new.bay) result }
+        ensures still { IfOk result (λ turn. Stays turn self.old self.new) }
+        ensures moved { IfOk result (λ turn. turn ≡ Turn.Moved) }
     {
         let file = self.core.number_of(rank, word.bytes());
         let Some(spot) = self.core.spot(rank, file) else {
@@ -187,7 +217,13 @@ impl<D: Device> Site<D> {
         };
         let bytes = content.bytes_for(self.alloc, rank)?;
         self.history.reserve(1)?;
-        put_part(
+        let end = end_of(at, &content, rank);
+        let step = Step::Write {
+            name: word,
+            at,
+            content,
+        };
+        match put_part(
             &mut self.bay,
             spot.place,
             spot.which,
@@ -195,30 +231,27 @@ impl<D: Device> Site<D> {
             spot.part,
             at as u64,
             bytes.list(),
-        )?;
-        self.core.extend(rank, file, end_of(at, &content, rank))?;
-        self.go_past(
-            rank,
-            Step::Write {
-                name: word,
-                at,
-                content,
-            },
-            Reply::Done,
-        )?;
-        Ok(Turn::Moved)
+        ) {
+            Ok(()) => {
+                self.core.extend(rank, file, end)?;
+                self.go_past(rank, step, Reply::Done)?;
+                Ok(Turn::Moved)
+            }
+            Err(trouble) => self.refuse_local(rank, step, trouble),
+        }
     }
 
-    /// The file's bytes are read.
+    /// The file's bytes are read; no read finds a device full.
     fn read(&mut self, rank: u8, word: Word, at: u32, len: u32) -> Result<Turn, SiteError>
         requires stage { self.old.core.stage ≡ Stage.Serving }
         requires next { IsNextLocal self.old.programs self.old.core rank (step.Read word at len) }
         requires clear { local_verdict_of self.old.core rank (step.Read word at len) ≡ None }
         ensures run { OnOk result (Keeps D.state self.old self.new) }
-        ensures told { OnOk result (TellsOne self.old.history.events self.new.history.events) }
+        ensures told { OnOk result (TellsBy (IsOfRank rank) D.state self.old self.new) }
         ensures refused { OnErr result (self.new.history.events ≡ self.old.history.events) }
         ensures fixed { IsSameRun self.old self.new }
-        ensures cause { SiteCause (states_of D.state self.old.bay) (states_of D.state self.new.bay) result }
+        ensures still { IfOk result (λ turn. Stays turn self.old self.new) }
+        ensures moved { IfOk result (λ turn. turn ≡ Turn.Moved) }
     {
         let file = self.core.number_of(rank, word.bytes());
         let Some(row) = self.core.rows_at(rank).get(file as usize) else {
@@ -232,7 +265,12 @@ impl<D: Device> Site<D> {
         let Ok(mut bytes) = vec![in self.alloc; 0u8; count as usize] else {
             return Err(SiteError::Memory);
         };
-        get_part(
+        let step = Step::Read {
+            name: word,
+            at,
+            len,
+        };
+        match get_part(
             &mut self.bay,
             spot.place,
             spot.which,
@@ -240,18 +278,16 @@ impl<D: Device> Site<D> {
             spot.part,
             from as u64,
             &mut bytes,
-        )?;
-        self.go_past(
-            rank,
-            Step::Read {
-                name: word,
-                at,
-                len,
-            },
-            Reply::Bytes {
-                bytes: Bytes::of(bytes),
-            },
-        )?;
-        Ok(Turn::Moved)
+        ) {
+            Ok(()) => {
+                let bytes = Bytes::of(bytes);
+                self.go_past(rank, step, Reply::Bytes { bytes })?;
+                Ok(Turn::Moved)
+            }
+            Err(Trouble::Fault { node, count }) => {
+                self.refuse_local(rank, step, Trouble::Fault { node, count })
+            }
+            Err(_) => Err(SiteError::Memory),
+        }
     }
 }

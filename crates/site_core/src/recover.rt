@@ -1,18 +1,24 @@
 // The moves of the recoverer: the run's number is stored, the records are read, and what was found is looked after.
-ghost use Rattle.std.specs.Prelude.{◌≡◌, ◌+◌, ◌<◌, ◌≤◌, ◌^◌, length, OnOk, OnErr};
+ghost use Rattle.std.specs.Prelude.{◌≡◌, ◌+◌, ◌<◌, ◌≤◌, ◌^◌, length, IfOk, OnOk, OnErr};
 ghost use Rattle.node_device.specs.Rack.{states_of};
+ghost use Rattle.std.specs.Prelude.{[], ◌++◌, ◌∷◌, map, filter, IfOk};
+ghost use Rattle.ckpt_model.specs.declared.event.Event.TheVariants as event;
+ghost use Rattle.site_core.specs.Shown.{row_of};
+ghost use Rattle.site_core.specs.Cores.{recovered, seen_core};
+ghost use Rattle.site_core.specs.Looks.{is_standing, found_member};
+ghost use Rattle.site_core.specs.Waiting.{recoverer_turn};
 ghost use Rattle.site_core.specs.Calls.{TellsAll};
-ghost use Rattle.site_core.specs.Causes.{SiteCause};
 ghost use Rattle.site_core.specs.Stored.{cells_of, stored_run};
-ghost use Rattle.site_core.specs.Follows.{Keeps, TellsOne, IsSameRun};
+ghost use Rattle.site_core.specs.Follows.{Keeps, TellsBy, IsOfWorker, IsSameRun, Stays};
 
 use crate::cache::Cache;
 use crate::core_state::Stage;
 use crate::error::SiteError;
 use crate::file_calls::{last_run, members_at, store_number};
 use crate::site::Site;
-use crate::turn::Turn;
+use crate::turn::{Turn, Why};
 use ckpt_model::{EntryRow, Event, StopCause};
+use member_store::Member;
 use node_device::Device;
 use scr_base::Items;
 use std::alloc::Global;
@@ -28,35 +34,56 @@ impl<D: Device> Site<D> {
     /// The recoverer's turn.
     pub(crate) fn recover(&mut self) -> Result<Turn, SiteError>
         ensures run { OnOk result (Keeps D.state self.old self.new) }
-        ensures told { OnOk result (TellsOne self.old.history.events self.new.history.events) }
+        ensures told { OnOk result (TellsBy IsOfWorker D.state self.old self.new) }
         ensures refused { OnErr result (self.new.history.events ≡ self.old.history.events) }
         ensures fixed { IsSameRun self.old self.new }
-        ensures cause { SiteCause (states_of D.state self.old.bay) (states_of D.state self.new.bay) result }
+        ensures still { IfOk result (λ turn. Stays turn self.old self.new) }
+        ensures waits { IfOk result (λ turn. turn ≡ recoverer_turn self.old.core.stage) }
     {
         match self.core.stage {
             Stage::Begun => self.begin_run(),
             Stage::Storing => self.store(),
             Stage::Looking => self.look(),
             Stage::Mending => self.mend(),
-            _ => Ok(self.rest()),
+            Stage::Serving | Stage::Saving { .. } | Stage::Dropping { .. } | Stage::Dropped => {
+                Ok(Turn::NotYet { why: Why::Idle })
+            }
+            Stage::Stopped | Stage::Cut => Ok(Turn::Ended),
         }
     }
 
-    /// The number of the run is found, and sets out; or the run is over where there is none.
+    /// The number of the run is found; or the run is over where there is none.
     fn begin_run(&mut self) -> Result<Turn, SiteError>
         requires { self.old.core.stage ≡ Stage.Begun }
         ensures run { OnOk result (Keeps D.state self.old self.new) }
-        ensures told { OnOk result (TellsOne self.old.history.events self.new.history.events) }
+        ensures told { OnOk result (TellsBy IsOfWorker D.state self.old self.new) }
         ensures refused { OnErr result (self.new.history.events ≡ self.old.history.events) }
         ensures fixed { IsSameRun self.old self.new }
-        ensures cause { SiteCause (states_of D.state self.old.bay) (states_of D.state self.new.bay) result }
+        ensures still { IfOk result (λ turn. Stays turn self.old self.new) }
+        ensures moved { IfOk result (λ turn. turn ≡ Turn.Moved) }
     {
-        let last = last_run(self.alloc, &mut self.bay)?;
+        match last_run(self.alloc, &mut self.bay) {
+            Ok(last) => self.take_number(last),
+            Err(trouble) => self.stop_by(trouble),
+        }
+    }
+
+    /// The run has the number after the last one; or it is over where there is none.
+    fn take_number(&mut self, last: u32) -> Result<Turn, SiteError>
+        requires stage { self.old.core.stage ≡ Stage.Begun }
+        requires last { TellsAll D.state → last ≡ stored_run (cells_of (states_of D.state self.old.bay)) }
+        ensures run { OnOk result (Keeps D.state self.old self.new) }
+        ensures told { OnOk result (TellsBy IsOfWorker D.state self.old self.new) }
+        ensures refused { OnErr result (self.new.history.events ≡ self.old.history.events) }
+        ensures fixed { IsSameRun self.old self.new }
+        ensures moved { IfOk result (λ turn. turn ≡ Turn.Moved) }
+        ensures bay { self.new.bay ≡ self.old.bay }
+    {
         if last == u32::MAX {
             self.run_out_of_numbers()
         } else {
             self.core.number(self.alloc, last + 1);
-            self.store()
+            Ok(Turn::Moved)
         }
     }
 
@@ -64,11 +91,13 @@ impl<D: Device> Site<D> {
     fn run_out_of_numbers(&mut self) -> Result<Turn, SiteError>
         requires stage { self.old.core.stage ≡ Stage.Begun }
         requires last { TellsAll D.state → stored_run (cells_of (states_of D.state self.old.bay)) ≡ 4294967295 }
+        ensures bay { self.new.bay ≡ self.old.bay }
         ensures run { OnOk result (Keeps D.state self.old self.new) }
-        ensures told { OnOk result (TellsOne self.old.history.events self.new.history.events) }
+        ensures told { OnOk result (TellsBy IsOfWorker D.state self.old self.new) }
         ensures refused { OnErr result (self.new.history.events ≡ self.old.history.events) }
         ensures fixed { IsSameRun self.old self.new }
-        ensures cause { SiteCause (states_of D.state self.old.bay) (states_of D.state self.new.bay) result }
+        ensures still { IfOk result (λ turn. Stays turn self.old self.new) }
+        ensures moved { IfOk result (λ turn. turn ≡ Turn.Moved) }
     {
         self.history.push(Event::Stop {
             cause: StopCause::Runs,
@@ -81,39 +110,59 @@ impl<D: Device> Site<D> {
     fn store(&mut self) -> Result<Turn, SiteError>
         requires { self.old.core.stage ≡ Stage.Storing }
         ensures run { OnOk result (Keeps D.state self.old self.new) }
-        ensures told { OnOk result (TellsOne self.old.history.events self.new.history.events) }
+        ensures told { OnOk result (TellsBy IsOfWorker D.state self.old self.new) }
         ensures refused { OnErr result (self.new.history.events ≡ self.old.history.events) }
         ensures fixed { IsSameRun self.old self.new }
-        ensures cause { SiteCause (states_of D.state self.old.bay) (states_of D.state self.new.bay) result }
+        ensures still { IfOk result (λ turn. Stays turn self.old self.new) }
+        ensures moved { IfOk result (λ turn. turn ≡ Turn.Moved) }
     {
         let places = self.core.places.copy(self.alloc)?;
         self.history.reserve(1)?;
-        let over = store_number(self.alloc, &mut self.bay, &mut self.core.storing)?;
-        if !over {
-            return Ok(Turn::Moved);
+        match store_number(self.alloc, &mut self.bay, &mut self.core.storing) {
+            Ok(over) => {
+                if !over {
+                    return Ok(Turn::Moved);
+                }
+                self.history.push(Event::Run {
+                    run: self.core.run,
+                    places,
+                })?;
+                self.core.stage = Stage::Looking;
+                Ok(Turn::Moved)
+            }
+            Err(trouble) => self.stop_by(trouble),
         }
-        self.history.push(Event::Run {
-            run: self.core.run,
-            places,
-        })?;
-        self.core.stage = Stage::Looking;
-        Ok(Turn::Moved)
     }
 
     /// The records are read, and what was found is told.
     fn look(&mut self) -> Result<Turn, SiteError>
         requires { self.old.core.stage ≡ Stage.Looking }
         ensures run { OnOk result (Keeps D.state self.old self.new) }
-        ensures told { OnOk result (TellsOne self.old.history.events self.new.history.events) }
+        ensures told { OnOk result (TellsBy IsOfWorker D.state self.old self.new) }
         ensures refused { OnErr result (self.new.history.events ≡ self.old.history.events) }
         ensures fixed { IsSameRun self.old self.new }
-        ensures cause { SiteCause (states_of D.state self.old.bay) (states_of D.state self.new.bay) result }
+        ensures still { IfOk result (λ turn. Stays turn self.old self.new) }
+        ensures moved { IfOk result (λ turn. turn ≡ Turn.Moved) }
     {
         let Some(place) = self.core.places.of_node(0) else {
             return Err(SiteError::Memory);
         };
         self.history.reserve(1)?;
-        let members = members_at(self.alloc, &mut self.bay, place, self.core.shape)?;
+        match members_at(self.alloc, &mut self.bay, place, self.core.shape) {
+            Ok(members) => self.find(members),
+            Err(trouble) => self.stop_by(trouble),
+        }
+    }
+
+    /// What the records told is found, and told.
+    fn find(&mut self, members: Vec<Member>) -> Result<Turn, SiteError>
+        ensures found { OnOk result (self.new.core ≡ recovered (seen_core self.old.core (map found_member (filter is_standing members.items)))) }
+        ensures events { OnOk result (self.new.history.events ≡ self.old.history.events ++ event.Found (map row_of (map found_member (filter is_standing members.items))) [] ∷ []) }
+        ensures moved { IfOk result (λ turn. turn ≡ Turn.Moved) }
+        ensures refused { OnErr result (self.new.history.events ≡ self.old.history.events) }
+        ensures fixed { IsSameRun self.old self.new }
+        ensures bay { self.new.bay ≡ self.old.bay }
+    {
         let kept = Cache::found(self.alloc, members)?;
         self.history.push(Event::Found {
             kept: kept.rows(self.alloc)?,
@@ -127,10 +176,11 @@ impl<D: Device> Site<D> {
     fn mend(&mut self) -> Result<Turn, SiteError>
         requires { self.old.core.stage ≡ Stage.Mending }
         ensures run { OnOk result (Keeps D.state self.old self.new) }
-        ensures told { OnOk result (TellsOne self.old.history.events self.new.history.events) }
+        ensures told { OnOk result (TellsBy IsOfWorker D.state self.old self.new) }
         ensures refused { OnErr result (self.new.history.events ≡ self.old.history.events) }
         ensures fixed { IsSameRun self.old self.new }
-        ensures cause { SiteCause (states_of D.state self.old.bay) (states_of D.state self.new.bay) result }
+        ensures still { IfOk result (λ turn. Stays turn self.old self.new) }
+        ensures moved { IfOk result (λ turn. turn ≡ Turn.Moved) }
     {
         let Some(which) = self.core.kept.to_mend() else {
             self.core.end_recovery();

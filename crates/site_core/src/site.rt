@@ -52,13 +52,13 @@ pub fn stop_devices<D: Device>(bay: &mut Bay<D>, pick: u8)
 }
 
 impl<D: Device> Site<D> {
-    ghost use Rattle.std.specs.Prelude.{◌≡◌, ◌≤◌, ◌*◌, ◌↔◌, ◌∷◌, [], List, map, length, true, IfOk, IfErr, OnOk, OnErr};
+    ghost use Rattle.std.specs.Prelude.{◌≡◌, ◌≤◌, ◌*◌, ◌↔◌, ◌∷◌, [], List, map, length, true, IfOk, IfErr, IfOk, OnOk, OnErr};
     ghost use Rattle.scr_base.specs.Sets.{numbers_below};
     ghost use Rattle.node_device.specs.Rack.{states_of};
     ghost use Rattle.ckpt_model.specs.Machine.{Machine};
     ghost use Rattle.site_core.specs.Shown.{setup_of};
-    ghost use Rattle.site_core.specs.Causes.{SiteCause};
-    ghost use Rattle.site_core.specs.Follows.{Keeps, Follows, Stands, Ends, HasStopped, TellsOne, IsActor, IsSameRun};
+    ghost use Rattle.site_core.specs.Waiting.{turn_of, flusher_turn};
+    ghost use Rattle.site_core.specs.Follows.{Keeps, Follows, Stands, Ends, WasCut, HasStopped, TellsBy, IsOf, IsActor, IsSameRun, Stays};
 
     /// Begins a run over a bay, which it leaves as it is. The bay comes back where there is no memory. The places are those of
     /// the nodes in their order, and each rank has a program.
@@ -102,24 +102,35 @@ impl<D: Device> Site<D> {
     pub fn turn(&mut self, actor: Actor) -> Result<Turn, SiteError>
         requires { IsActor (length self.old.core.ranks) actor }
         ensures run { OnOk result (Keeps D.state self.old self.new) }
-        ensures told { OnOk result (TellsOne self.old.history.events self.new.history.events) }
+        ensures told { OnOk result (TellsBy (IsOf actor) D.state self.old self.new) }
         ensures refused { OnErr result (self.new.history.events ≡ self.old.history.events) }
         ensures fixed { IsSameRun self.old self.new }
-        ensures cause { SiteCause (states_of D.state self.old.bay) (states_of D.state self.new.bay) result }
+        ensures still { IfOk result (λ turn. Stays turn self.old self.new) }
+        ensures waits { IfOk result (λ turn. turn ≡ turn_of self.old.core self.old.programs actor) }
     {
         match actor {
             Actor::Recoverer => self.recover(),
             Actor::Rank { rank } => self.rank(rank),
             Actor::Encoder => self.encode(),
-            Actor::Flusher | Actor::Evictor => Ok(self.rest()),
+            Actor::Evictor => self.evict(),
+            Actor::Flusher => Ok(self.rest()),
         }
     }
 
-    /// The turn of an actor that has nothing to do.
-    pub(crate) fn rest(&self) -> Turn {
+    /// The flusher's turn: it has nothing to do.
+    fn rest(&self) -> Turn
+        ensures { result ≡ flusher_turn self.now.core.stage }
+    {
         match self.core.stage {
-            Stage::Stopped => Turn::Ended,
-            _ => Turn::NotYet { why: Why::Idle },
+            Stage::Begun
+            | Stage::Storing
+            | Stage::Looking
+            | Stage::Mending
+            | Stage::Serving
+            | Stage::Saving { .. }
+            | Stage::Dropping { .. }
+            | Stage::Dropped => Turn::NotYet { why: Why::Idle },
+            Stage::Stopped | Stage::Cut => Turn::Ended,
         }
     }
 
@@ -134,14 +145,15 @@ impl<D: Device> Site<D> {
     pub fn stopped(&self) -> bool
         ensures { result ≡ true ↔ HasStopped self.now }
     {
-        matches!(self.core.stage, Stage::Stopped)
+        matches!(self.core.stage, Stage::Stopped | Stage::Cut)
     }
 
     /// Hands the history and the bay back.
     pub fn close(self) -> Closed<D>
         ensures history { result.history ≡ self.history }
         ensures bay { result.bay ≡ self.bay }
-        ensures ends { (first : Machine) → Follows D.state first self → HasStopped self → Ends (setup_of self.core) (states_of D.state result.bay) first self.core.places self.programs result.history.events }
+        ensures cut { (first : Machine) → Follows D.state first self → self.core.stage ≡ Stage.Cut → WasCut (setup_of self.core) first self.core.places self.programs result.history.events }
+        ensures ends { (first : Machine) → Follows D.state first self → self.core.stage ≡ Stage.Stopped → Ends (setup_of self.core) (states_of D.state result.bay) first self.core.places self.programs result.history.events }
     {
         let Site {
             alloc: _,

@@ -1,7 +1,8 @@
-use Rattle.std.proofs.Common.{sym, ◌∙◌, ap, Some}
+use Rattle.std.proofs.Common.{sym, ◌∙◌, ap, refl, Some}
 use Rattle.scr_base.specs.declared.content.Step.{Step}
 use Rattle.site_core.specs.Choosing.{verdict_of}
 use Rattle.site_core.proofs.Called.{all_called}
+use Rattle.site_core.proofs.Asked.{one_missing, asks_no_save, asks_save}
 use Rattle.site_core.proofs.core_state.Core.is_to_save.Goals as goal
 
 pub verdict-requires : goal.verdict-requires
@@ -15,3 +16,9 @@ returns-in-None-verdict-clause-round c = λ is. record {
   clear = ap (λ (x : Step). verdict_of c.args.self.now x) (sym c.in-Complete.is) ∙ sym c.in_ok-verdict.ensures.verdict ∙ c.in-None-verdict.is;
   all = sym c.if-not-is_valid.ensures;
 }
+
+pub returns-in_default-missing-clause-exact : goal.returns-in_default-missing-clause-exact
+returns-in_default-missing-clause-exact c = asks_no_save c.args.self.now (one_missing c.args.self.now.ranks c.in_default-missing.field-0 (sym c.missing.ensures ∙ c.in_default-missing.is))
+
+pub returns-in-None-verdict-clause-exact : goal.returns-in-None-verdict-clause-exact
+returns-in-None-verdict-clause-exact c = asks_save c.args.self.now c.in-Some.field-0 c.in-Some.is (returns-in-None-verdict-clause-round c refl)

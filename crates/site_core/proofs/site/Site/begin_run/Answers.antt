@@ -1,39 +1,46 @@
-use Rattle.std.proofs.Common.{◌∙◌, ◌+◌, ◌<◌, ◌^◌, ℕ, ap, sym, subst, arith}
+use Rattle.std.proofs.Common.{◌∙◌, ℕ, ap, sym, subst, refl, inl}
 use Rattle.node_device.specs.DeviceState.{DeviceState}
 use Rattle.node_device.specs.Rack.{states_of}
-use Rattle.site_core.specs.declared.core_state.Core.{Core}
 use Rattle.site_core.specs.Stored.{cells_of, stored_run}
 use Rattle.site_core.specs.Holds.{Leads}
-use Rattle.site_core.proofs.Telling.{tells_of, same_states, on_ok}
-use Rattle.site_core.proofs.Numbering.{numbered, numbered_core}
+use Rattle.site_core.specs.Follows.{IsOfWorker}
+use Rattle.site_core.proofs.Telling.{tells_of, same_states, on_ok, on_ok2, on_ok3}
+use Rattle.site_core.proofs.Turns.{ends_early, tells_end, moved_stays, told_across}
 use Rattle.site_core.proofs.site.Site.begin_run.Goals as goal
 
-pub run_out_of_numbers-requires-clause-last : goal.run_out_of_numbers-requires-clause-last
-run_out_of_numbers-requires-clause-last g c = λ tells.
+pub take_number-requires-clause-last : goal.take_number-requires-clause-last
+take_number-requires-clause-last g c = λ tells.
     let s = c.args.self.now in
     let state = g.D.Device.state in
-    let same = same_states 32 (states_of state s.bay) (states_of state c.last_run.new.bay) c.in_ok-last.ensures.same in
-    ap (λ (st : ℕ → DeviceState). stored_run (cells_of st)) same ∙ sym (c.in_ok-last.ensures.run (tells_of state tells s.bay 32)) ∙ c.if-last.true
+    let same = same_states 32 (states_of state s.bay) (states_of state c.last_run.new.bay) c.in-Ok.ensures.same in
+    c.in-Ok.ensures.run (tells_of state tells s.bay 32) ∙ sym (ap (λ (st : ℕ → DeviceState). stored_run (cells_of st)) same)
 
-pub returns-then-last-clause-run : goal.returns-then-last-clause-run
-returns-then-last-clause-run g c =
+pub returns-in-Ok-clause-run : goal.returns-in-Ok-clause-run
+returns-in-Ok-clause-run g c =
     let s = c.args.self.now in
     let state = g.D.Device.state in
-    let same = same_states 32 (states_of state s.bay) (states_of state c.last_run.new.bay) c.in_ok-last.ensures.same in
-    on_ok c.run_out_of_numbers.result
+    let same = same_states 32 (states_of state s.bay) (states_of state c.last_run.new.bay) c.in-Ok.ensures.same in
+    on_ok c.take_number.result
     (λ keeps tells first f. keeps tells first (subst (λ (st : ℕ → DeviceState). Leads first s.core s.programs st s.history.events) (sym same) f))
-    c.run_out_of_numbers.ensures.run
+    c.take_number.ensures.run
 
-pub returns-else-last-clause-run : goal.returns-else-last-clause-run
-returns-else-last-clause-run g c =
+pub returns-in-Ok-clause-told : goal.returns-in-Ok-clause-told
+returns-in-Ok-clause-told g c =
     let s = c.args.self.now in
     let state = g.D.Device.state in
-    let n = c.in_ok-last.last in
-    let same = same_states 32 (states_of state s.bay) (states_of state c.last_run.new.bay) c.in_ok-last.ensures.same in
-    let fits : n + 1 < 2 ^ 32 = omega (arith, c.if-last.false) in
-    on_ok c.store.result
-    (λ keeps tells first f.
-    let l = numbered first s.core s.programs (states_of state s.bay) s.history.events n c.requires fits (c.in_ok-last.ensures.run (tells_of state tells s.bay 32)) f in
-    let m = subst (λ (st : ℕ → DeviceState). Leads first (numbered_core s.core (n + 1)) s.programs st s.history.events) (sym same) l in
-    keeps tells first (subst (λ (x : Core). Leads first x s.programs (states_of state c.last_run.new.bay) s.history.events) (sym c.number.ensures) m))
-    c.store.ensures.run
+    let same = same_states 32 (states_of state s.bay) (states_of state c.last_run.new.bay) c.in-Ok.ensures.same in
+    on_ok c.take_number.result (told_across IsOfWorker state s (record s { bay = c.last_run.new.bay }) c.take_number.new.self refl refl same) c.take_number.ensures.told
+
+pub returns-in-Ok-clause-still : goal.returns-in-Ok-clause-still
+returns-in-Ok-clause-still g c = moved_stays c.args.self.now c.take_number.new.self c.take_number.result c.take_number.ensures.moved
+
+pub returns-in-Err-clause-run : goal.returns-in-Err-clause-run
+returns-in-Err-clause-run g c = on_ok3 c.stop_by.result (λ e k t. ends_early g.D.Device.state c.args.self.now c.stop_by.new.self c.in-Err.trouble e k c.stop_by.ensures.fixed.programs (inl c.requires) t)
+    c.stop_by.ensures.events c.stop_by.ensures.core c.stop_by.ensures.told
+
+pub returns-in-Err-clause-told : goal.returns-in-Err-clause-told
+returns-in-Err-clause-told g c = on_ok2 c.stop_by.result (λ e t. tells_end g.D.Device.state c.args.self.now c.stop_by.new.self c.in-Err.trouble e ℕ c.last_run.new.bay c.stop_by.ensures.bay t c.in-Err.ensures.cause)
+    c.stop_by.ensures.events c.stop_by.ensures.told
+
+pub returns-in-Err-clause-still : goal.returns-in-Err-clause-still
+returns-in-Err-clause-still g c = moved_stays c.args.self.now c.stop_by.new.self c.stop_by.result c.stop_by.ensures.moved

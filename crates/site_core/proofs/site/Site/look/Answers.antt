@@ -1,28 +1,48 @@
-use Rattle.std.proofs.Common.{◌∙◌, ℕ, List, [], map, ap, sym, subst}
+use Rattle.std.proofs.Common.{◌∙◌, [], map, filter, ap, sym, refl}
 use Rattle.ckpt_model.specs.declared.event.Event.TheVariants as event
-use Rattle.ckpt_model.specs.declared.event.FoundRow.{FoundRow}
-use Rattle.ckpt_model.specs.declared.event.EntryRow.{EntryRow}
-use Rattle.node_device.specs.DeviceState.{DeviceState}
 use Rattle.node_device.specs.Rack.{states_of}
-use Rattle.site_core.specs.declared.core_state.Core.{Core}
 use Rattle.site_core.specs.Shown.{row_of}
-use Rattle.site_core.specs.Cores.{recovered}
-use Rattle.site_core.specs.Holds.{Leads}
+use Rattle.site_core.specs.Causes.{cause_of}
+use Rattle.site_core.specs.Looks.{is_standing, found_member}
+use Rattle.site_core.specs.Cores.{recovered, seen_core}
+use Rattle.site_core.specs.Follows.{IsOfWorker}
 use Rattle.site_core.proofs.Told.{appended}
-use Rattle.site_core.proofs.Telling.{tells_of, same_states}
-use Rattle.site_core.proofs.Seen.{seen, seen_core}
+use Rattle.site_core.proofs.Telling.{tells_of, same_states, on_ok, on_ok2, on_ok3}
+use Rattle.site_core.proofs.LocalSteps.{lead_on}
+use Rattle.site_core.proofs.Turns.{ends_looking, tells_end, tells_one, moved_stays}
+use Rattle.site_core.proofs.Seen.{seen}
 use Rattle.site_core.proofs.site.Site.look.Goals as goal
 
-pub returns-clause-run : goal.returns-clause-run
-returns-clause-run g c = λ tells first f.
+pub returns-in-Ok-clause-run : goal.returns-in-Ok-clause-run
+returns-in-Ok-clause-run g c = on_ok2 c.find.result (λ k e tells first f.
     let s = c.args.self.now in
     let state = g.D.Device.state in
     let place = c.in-Some.place in
-    let kept = c.in_ok-kept.kept in
-    let events = c.push.new.self.events in
-    let same = same_states place (states_of state s.bay) (states_of state c.members_at.new.bay) c.in_ok-members.ensures.same in
-    let told = appended events c.reserve.new.self.events s.history.events (event.Found c.in_ok-rows.field-0 c.no_entries.result) (event.Found (map row_of kept) []) c.in_ok-push.ensures.events c.reserve.ensures.events
-    (ap (λ (r : List FoundRow). event.Found r c.no_entries.result) c.in_ok-rows.ensures ∙ ap (λ (r : List EntryRow). event.Found (map row_of kept) r) c.no_entries.ensures) in
-    let l = seen first s.core s.programs (states_of state s.bay) s.history.events events place c.in_ok-members.members.items kept c.requires (sym c.of_node.ensures.place ∙ c.in-Some.is) (c.in_ok-members.ensures.members (tells_of state tells s.bay place)) c.in_ok-kept.ensures told f in
-    let m = subst (λ (st : ℕ → DeviceState). Leads first (recovered (seen_core s.core kept)) s.programs st events) (sym same) l in
-    subst (λ (x : Core). Leads first x s.programs (states_of state c.members_at.new.bay) events) (sym c.find.ensures) m
+    let kept = map found_member (filter is_standing c.in-Ok.members.items) in
+    let after = c.find.new.self in
+    let same = same_states place (states_of state s.bay) (states_of state c.members_at.new.bay) c.in-Ok.ensures.same in
+    let told = appended after.history.events c.reserve.new.self.events s.history.events (event.Found (map row_of kept) []) (event.Found (map row_of kept) []) e c.reserve.ensures.events refl in
+    let l = seen first s.core s.programs (states_of state s.bay) s.history.events after.history.events place c.in-Ok.members.items kept c.requires (sym c.of_node.ensures.place ∙ c.in-Some.is) (c.in-Ok.ensures.members (tells_of state tells s.bay place)) refl told f in
+    lead_on first (recovered (seen_core s.core kept)) after.core s.programs after.programs (states_of state s.bay) (states_of state after.bay) after.history.events k c.find.ensures.fixed.programs (ap (states_of state) c.find.ensures.bay ∙ same) l)
+    c.find.ensures.found c.find.ensures.events
+
+pub returns-in-Ok-clause-told : goal.returns-in-Ok-clause-told
+returns-in-Ok-clause-told g c = on_ok c.find.result (λ e.
+    let s = c.args.self.now in
+    let kept = map found_member (filter is_standing c.in-Ok.members.items) in
+    tells_one IsOfWorker g.D.Device.state s c.find.new.self (event.Found (map row_of kept) []) (appended c.find.new.self.history.events c.reserve.new.self.events s.history.events (event.Found (map row_of kept) []) (event.Found (map row_of kept) []) e c.reserve.ensures.events refl) tt tt)
+    c.find.ensures.events
+
+pub returns-in-Ok-clause-still : goal.returns-in-Ok-clause-still
+returns-in-Ok-clause-still g c = moved_stays c.args.self.now c.find.new.self c.find.result c.find.ensures.moved
+
+pub returns-in-Err-clause-run : goal.returns-in-Err-clause-run
+returns-in-Err-clause-run g c = on_ok3 c.stop_by.result (λ e k t. ends_looking g.D.Device.state c.args.self.now c.stop_by.new.self c.in-Err.trouble (appended c.stop_by.new.self.history.events c.reserve.new.self.events c.args.self.now.history.events (event.Stop (cause_of c.in-Err.trouble)) (event.Stop (cause_of c.in-Err.trouble)) e c.reserve.ensures.events refl) k c.stop_by.ensures.fixed.programs c.requires t)
+    c.stop_by.ensures.events c.stop_by.ensures.core c.stop_by.ensures.told
+
+pub returns-in-Err-clause-told : goal.returns-in-Err-clause-told
+returns-in-Err-clause-told g c = on_ok2 c.stop_by.result (λ e t. tells_end g.D.Device.state c.args.self.now c.stop_by.new.self c.in-Err.trouble (appended c.stop_by.new.self.history.events c.reserve.new.self.events c.args.self.now.history.events (event.Stop (cause_of c.in-Err.trouble)) (event.Stop (cause_of c.in-Err.trouble)) e c.reserve.ensures.events refl) (Unit {0}) c.members_at.new.bay c.stop_by.ensures.bay t c.in-Err.ensures.cause)
+    c.stop_by.ensures.events c.stop_by.ensures.told
+
+pub returns-in-Err-clause-still : goal.returns-in-Err-clause-still
+returns-in-Err-clause-still g c = moved_stays c.args.self.now c.stop_by.new.self c.stop_by.result c.stop_by.ensures.moved

@@ -1,4 +1,4 @@
-use Rattle.std.proofs.Common.{◌≡◌, List, ℕ, Some, min, take, drop, length, ap, sym, ◌∙◌, ◌+◌, ◌-◌, slice_get}
+use Rattle.std.proofs.Common.{◌∷◌, [], arith, refl, subst, true, ◌≡◌, List, ℕ, Some, min, take, drop, length, ap, sym, ◌∙◌, ◌+◌, ◌-◌, slice_get}
 use Rattle.std.specs.Prelude.{slice_set}
 use Rattle.std.proofs.lemmas.Option.{slice_get-get_or}
 use Rattle.filemap.specs.Rows.{place_of}
@@ -13,11 +13,17 @@ use Rattle.round_core.specs.Seats.{stepped}
 use Rattle.site_core.specs.Choosing.{rows_at}
 use Rattle.site_core.specs.declared.core_state.Core.{Core}
 use Rattle.site_core.proofs.LocalCalls.{front_is}
-use Rattle.site_core.proofs.LocalSteps.{read_told, each_tells, same_states, lead_on, tells_one}
+use Rattle.site_core.proofs.LocalSteps.{read_told, each_tells, same_states, lead_on}
+use Rattle.scr_base.specs.declared.answers.Refusal.{Refusal}
+use Rattle.scr_base.specs.declared.answers.Refusal.TheVariants as refusal
+use Rattle.ckpt_model.specs.Answers.{may_fault_local}
+use Rattle.site_core.specs.declared.error.Trouble.TheVariants as error
+use Rattle.site_core.proofs.Telling.{on_ok2}
+use Rattle.site_core.proofs.LocalRefusals.{keeps_get}
 use Rattle.site_core.proofs.site.Site.read.Goals as goal
 
-pub returns-clause-run : goal.returns-clause-run
-returns-clause-run g c = λ tells first follows.
+pub returns-in-Ok-get_part-clause-run : goal.returns-in-Ok-get_part-clause-run
+returns-in-Ok-get_part-clause-run g c = λ tells first follows.
     let s = c.args.self.now in
     let state = g.D.Device.state in
     let n = c.requires.next in
@@ -31,17 +37,35 @@ returns-clause-run g c = λ tells first follows.
     let number = c.number_of-file.ensures.number ∙ ap (λ (w : List ℕ). place_of (rows_at s.core rank) w) c.bytes.ensures.value in
     let row_is : slice_get (rows_at s.core rank) file ≡ Some row = ap (λ (rs : List FileRow). slice_get rs file) (sym c.rows_at.ensures.value) ∙ slice_get-get_or c.rows_at.result.now file row c.in-Some.ensures.lookup.3.0 ∙ ap (λ (r : FileRow). Some r) (sym c.in-Some.ensures.lookup.1) in
     let there = bytes_of ((states_of state s.bay spot.place).file (part_name spot.which spot.node spot.part)).now in
-    let told : c.get_part.new.into ≡ take (length c.deref_mut.result.now) (drop c.min-from.result there) = c.in_ok-get_part.ensures.bytes (each_tells state s.bay tells spot.place) in
+    let told : c.get_part.new.into ≡ take (length c.deref_mut.result.now) (drop c.min-from.result there) = c.in-Ok-get_part.ensures.bytes (each_tells state s.bay tells spot.place) in
     let count : length c.deref_mut.result.now ≡ min len (row.len - at) = c.deref_mut.ensures.len ∙ c.in-Ok.ensures.len ∙ c.min-count.ensures ∙ ap (λ (k : ℕ). min len k) c.saturating_sub.ensures in
-    let text : c.of.result ≡ take (min len (row.len - at)) (drop (min at row.len) there) =
-    c.of.ensures ∙ front_is c.in-Ok.bytes.len c.get_part.new.into (drop (length c.get_part.new.into) c.in-Ok.bytes.items) (c.in-Ok.bytes.ok.0 ∙ ap length (sym c.deref_mut.ensures.value) ∙ sym c.get_part.auto.into) ∙ told ∙ ap (λ (k : ℕ). take k (drop c.min-from.result there)) count ∙ ap (λ (k : ℕ). take (min len (row.len - at)) (drop k there)) c.min-from.ensures in
+    let text : c.of-bytes.result ≡ take (min len (row.len - at)) (drop (min at row.len) there) =
+    c.of-bytes.ensures ∙ front_is c.in-Ok.bytes.len c.get_part.new.into (drop (length c.get_part.new.into) c.in-Ok.bytes.items) (c.in-Ok.bytes.ok.0 ∙ ap length (sym c.deref_mut.ensures.value) ∙ sym c.get_part.auto.into) ∙ told ∙ ap (λ (k : ℕ). take k (drop c.min-from.result there)) count ∙ ap (λ (k : ℕ). take (min len (row.len - at)) (drop k there)) c.min-from.ensures in
     lead_on first (let x : Core = record s.core { ranks = slice_set s.core.ranks rank (stepped n.seat) } in x) after.core s.programs after.programs (states_of state s.bay) (states_of state after.bay) after.history.events
-    (c.in_ok-go_past.ensures.core n.seat n.is) c.go_past.ensures.fixed.programs
-    (ap (states_of state) c.go_past.ensures.bay ∙ same_states spot.place (states_of state s.bay) (states_of state c.get_part.new.bay) c.in_ok-get_part.ensures.same)
-    (read_told first s.core s.programs (states_of state s.bay) s.history.events after.history.events rank file c.args.word at len spot row c.of.result
-    c.requires.stage n c.requires.clear c.in-Some-spot.ensures number row_is text follows (c.in_ok-go_past.ensures.events n.seat n.is))
+    (c.in_ok-go_past-in-Ok-get_part.ensures.core n.seat n.is) c.go_past.ensures.fixed.programs
+    (ap (states_of state) c.go_past.ensures.bay ∙ same_states spot.place (states_of state s.bay) (states_of state c.get_part.new.bay) c.in-Ok-get_part.ensures.same)
+    (read_told first s.core s.programs (states_of state s.bay) s.history.events after.history.events rank file c.args.word at len spot row c.of-bytes.result
+    c.requires.stage n c.requires.clear c.in-Some-spot.ensures number row_is text follows (c.in_ok-go_past-in-Ok-get_part.ensures.events n.seat n.is))
 
-pub returns-clause-told : goal.returns-clause-told
-returns-clause-told g c =
+pub returns-in-Ok-get_part-clause-told : goal.returns-in-Ok-get_part-clause-told
+returns-in-Ok-get_part-clause-told g c =
     let n = c.requires.next in
-    tells_one c.args.self.now.history.events c.go_past.new.self.history.events (event.Local c.args.rank (n.seat.number + 1) (step.Read c.args.word c.args.at c.args.len) (reply.Bytes c.of.result)) (c.in_ok-go_past.ensures.events n.seat n.is)
+    let e = event.Local c.args.rank (n.seat.number + 1) (step.Read c.args.word c.args.at c.args.len) (reply.Bytes c.of-bytes.result) in
+    record { told = e ∷ []; few = omega arith; is = c.in_ok-go_past-in-Ok-get_part.ensures.events n.seat n.is; own = (refl, tt); caused = (tt, tt) }
+
+some_refusal : (x y : Refusal) → Some x ≡ Some y → x ≡ y
+some_refusal x y q = cc
+
+may_so : (node count : ℕ) (r : Refusal) (name : List ℕ) (at len : ℕ) → Some (refusal.Device node count) ≡ Some r → may_fault_local (step.Read name at len) (reply.Refused r) ≡ true
+may_so node count r name at len is = subst (λ (x : Refusal). may_fault_local (step.Read name at len) (reply.Refused x) ≡ true) (some_refusal (refusal.Device node count) r is) refl
+
+pub returns-in-Err-Fault-clause-run : goal.returns-in-Err-Fault-clause-run
+returns-in-Err-Fault-clause-run g c = on_ok2 c.refuse_local.result (λ e k.
+    let s = c.args.self.now in
+    let n = c.requires.next in
+    let x = e n.seat n.is in
+    let node = c.in-Err-Fault.node in
+    let count = c.in-Err-Fault.count in
+    keeps_get g.D.Device.state s c.refuse_local.new.self c.get_part.new.bay c.args.rank (step.Read c.args.word c.args.at c.args.len) (error.Fault node count) x.0 n.seat c.refuse_local.ensures.bay x.1 n.is
+    x.2 (k n.seat n.is) c.refuse_local.ensures.fixed.programs c.requires.stage n c.requires.clear (may_so node count x.0 c.args.word c.args.at c.args.len x.1) c.in-Some-spot.spot.place c.in-Err-Fault.ensures.refused)
+    c.refuse_local.ensures.events c.refuse_local.ensures.core

@@ -1,4 +1,4 @@
-use Rattle.std.proofs.Common.{List, ℕ, ap, refl, ◌∙◌}
+use Rattle.std.proofs.Common.{List, ℕ, ap, ◌∙◌}
 use Rattle.filemap.specs.Rows.{place_of}
 use Rattle.node_device.specs.Rack.{states_of}
 use Rattle.site_core.specs.Choosing.{rows_at}

@@ -1,4 +1,4 @@
-use Rattle.std.proofs.Common.{◌≡◌, ◌∙◌, sym, subst, ap, refl, List}
+use Rattle.std.proofs.Common.{arith, [], ◌∷◌, ◌≡◌, ◌∙◌, sym, subst, ap, refl, List}
 use Rattle.ckpt_model.specs.declared.event.Event.TheVariants as event
 use Rattle.node_device.specs.Rack.{states_of}
 use Rattle.site_core.specs.Cores.{sealed_core}
@@ -14,10 +14,14 @@ use Rattle.site_core.proofs.SaveMoves.{sealed_turned}
 use Rattle.site_core.proofs.SaveEnds.{seal_told}
 use Rattle.site_core.proofs.Works.{saves_now, opened_is}
 use Rattle.site_core.proofs.Telling.{tells_all}
+use Rattle.site_core.proofs.Telling.{on_ok2, on_ok3}
+use Rattle.site_core.proofs.Refusals.{fault_is_told}
+use Rattle.site_core.proofs.Turns.{ends_saving, tells_end, moved_stays}
+use Rattle.site_core.specs.Causes.{cause_of}
 use Rattle.site_core.proofs.site.Site.seal_first.Goals as goal
 
-pub returns-clause-run : goal.returns-clause-run
-returns-clause-run g c = λ tells first f.
+pub returns-in_ok-push-in-Ok-clause-run : goal.returns-in_ok-push-in-Ok-clause-run
+returns-in_ok-push-in-Ok-clause-run g c = λ tells first f.
     let s = c.args.self.now in
     let old = states_of g.D.Device.state s.bay in
     let new = states_of g.D.Device.state c.put_gate.new.bay in
@@ -25,8 +29,25 @@ returns-clause-run g c = λ tells first f.
     let h = saves_now first s.core s.programs old s.history.events work.Sealed c.args.node c.requires.stage f in
     let same : m ≡ h.0 = opened_is first s.core s.programs old s.history.events work.Sealed c.args.node h.0 m h.1 c.in-Some-opened.is in
     let saving = subst (λ (x : Manifest). Rattle.site_core.specs.Holds.IsSaving first s.core s.programs old s.history.events work.Sealed c.args.node x) (sym same) h.1 in
-    let told = appended c.push.new.self.events c.reserve.new.self.events s.history.events (event.Sealing m.desc.which) (event.Sealing m.desc.which) c.in_ok-push.ensures.events c.reserve.ensures.events refl in
+    let told = appended c.push.new.self.events c.reserve.new.self.events s.history.events (event.Sealing m.desc.which) (event.Sealing m.desc.which) c.in_ok-push-in-Ok.ensures.events c.reserve.ensures.events refl in
     let sealing = seal_told first s.core s.programs old s.history.events c.push.new.self.events work.Sealed c.args.node m saving c.in-Some-opened.is told in
     let l = saving_leads first (sealed_core s.core m) s.programs new c.push.new.self.events work.SealedSync c.args.node m
-    (sealed_turned first (sealed_core s.core m) s.programs old new c.push.new.self.events c.args.node m c.in-Some.place (sym c.in-Some.ensures.place) sealing c.in_ok-put_gate.ensures.turned (tells_all g.D.Device.state tells s.bay)) in
-    subst (λ (x : Core). Leads first (staged x (stage.Saving work.SealedSync c.args.node)) s.programs new c.push.new.self.events) (sym (c.in_ok-seal.ensures.sealed m c.in-Some-opened.is ∙ ap (λ (k : List Cached). sealed_core (record s.core { kept = k }) m) c.reserve-2.ensures)) l
+    (sealed_turned first (sealed_core s.core m) s.programs old new c.push.new.self.events c.args.node m c.in-Some.place (sym c.in-Some.ensures.place) sealing c.in-Ok.ensures.turned (tells_all g.D.Device.state tells s.bay)) in
+    subst (λ (x : Core). Leads first (staged x (stage.Saving work.SealedSync c.args.node)) s.programs new c.push.new.self.events) (sym (c.in_ok-seal-in-Ok.ensures.sealed m c.in-Some-opened.is ∙ ap (λ (k : List Cached). sealed_core (record s.core { kept = k }) m) c.reserve-2.ensures)) l
+
+pub returns-in-Err-clause-run : goal.returns-in-Err-clause-run
+returns-in-Err-clause-run g c = on_ok3 c.stop_by_fault.result (λ e k t. ends_saving g.D.Device.state c.args.self.now c.stop_by_fault.new.self c.in-Err.trouble (appended c.stop_by_fault.new.self.history.events c.reserve.new.self.events c.args.self.now.history.events (event.Stop (cause_of c.in-Err.trouble)) (event.Stop (cause_of c.in-Err.trouble)) e c.reserve.ensures.events refl) (k ∙ ap (λ (x : List Cached). let y : Core = record c.args.self.now.core { stage = stage.Cut; kept = x } in y) c.reserve-2.ensures) c.stop_by_fault.ensures.fixed.programs work.Sealed c.args.node c.requires.stage t)
+    c.stop_by_fault.ensures.events c.stop_by_fault.ensures.core c.stop_by_fault.ensures.fault
+
+pub returns-in-Err-clause-told : goal.returns-in-Err-clause-told
+returns-in-Err-clause-told g c = on_ok2 c.stop_by_fault.result (λ e t. tells_end g.D.Device.state c.args.self.now c.stop_by_fault.new.self c.in-Err.trouble (appended c.stop_by_fault.new.self.history.events c.reserve.new.self.events c.args.self.now.history.events (event.Stop (cause_of c.in-Err.trouble)) (event.Stop (cause_of c.in-Err.trouble)) e c.reserve.ensures.events refl) (Unit {0}) c.put_gate.new.bay c.stop_by_fault.ensures.bay (fault_is_told c.in-Err.trouble t) c.in-Err.ensures.cause)
+    c.stop_by_fault.ensures.events c.stop_by_fault.ensures.fault
+
+pub returns-in-Err-clause-still : goal.returns-in-Err-clause-still
+returns-in-Err-clause-still g c = moved_stays c.args.self.now c.stop_by_fault.new.self c.stop_by_fault.result c.stop_by_fault.ensures.moved
+
+pub returns-in_ok-push-in-Ok-clause-told : goal.returns-in_ok-push-in-Ok-clause-told
+returns-in_ok-push-in-Ok-clause-told g c =
+    let s = c.args.self.now in
+    let e = event.Sealing c.in-Some-opened.m.desc.which in
+    record { told = e ∷ []; few = omega arith; is = appended c.push.new.self.events c.reserve.new.self.events s.history.events e e c.in_ok-push-in-Ok.ensures.events c.reserve.ensures.events refl; own = (tt, tt); caused = (tt, tt) }

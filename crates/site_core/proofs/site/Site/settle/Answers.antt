@@ -1,4 +1,4 @@
-use Rattle.std.proofs.Common.{◌≡◌, ◌∙◌, sym, subst, ap}
+use Rattle.std.proofs.Common.{refl, ◌∷◌, [], arith, ◌≡◌, ◌∙◌, sym, subst, ap}
 use Rattle.scr_base.specs.declared.shape.DataId.{DataId}
 use Rattle.ckpt_model.specs.declared.event.Event.TheVariants as event
 use Rattle.node_device.specs.Rack.{states_of}
@@ -9,15 +9,36 @@ use Rattle.site_core.specs.declared.core_state.Work.TheVariants as work
 use Rattle.site_core.proofs.Told.{appended}
 use Rattle.site_core.proofs.SaveEnds.{settle_told}
 use Rattle.site_core.proofs.Works.{saves_now, saved_is, last_node}
+use Rattle.site_core.proofs.Telling.{on_ok2, on_ok3}
+use Rattle.site_core.proofs.Refusals.{fault_is_told}
+use Rattle.site_core.proofs.Turns.{ends_saving, tells_end, moved_stays}
+use Rattle.site_core.specs.Causes.{cause_of}
 use Rattle.site_core.proofs.site.Site.settle.Goals as goal
 
-pub returns-clause-run : goal.returns-clause-run
-returns-clause-run g c = λ tells first f.
+pub returns-in_ok-push-in-Ok-clause-run : goal.returns-in_ok-push-in-Ok-clause-run
+returns-in_ok-push-in-Ok-clause-run g c = λ tells first f.
     let s = c.args.self.now in
     let old = states_of g.D.Device.state s.bay in
     let new = states_of g.D.Device.state c.sync_node.new.bay in
     let h = saves_now first s.core s.programs old s.history.events work.SealedSync c.args.node c.requires.stage f in
     let which : c.in-Some-saved.which ≡ h.0.desc.which = saved_is first s.core s.programs old s.history.events work.SealedSync c.args.node h.0 c.in-Some-saved.which h.1 c.in-Some-saved.ensures in
-    let told = appended c.push.new.self.events c.reserve.new.self.events s.history.events (event.Settled c.in-Some-saved.which) (event.Settled h.0.desc.which) c.in_ok-push.ensures.events c.reserve.ensures.events (ap (λ (w : DataId). event.Settled w) which) in
-    let l = settle_told first s.core s.programs old new s.history.events c.push.new.self.events c.args.node h.0 c.in-Some.place (sym c.in-Some.ensures.place) h.1 c.in-None.is (last_node c.args.node s.core.shape.nodes h.1.saves.below c.requires.last) c.in_ok-sync_node.ensures.synced told in
+    let told = appended c.push.new.self.events c.reserve.new.self.events s.history.events (event.Settled c.in-Some-saved.which) (event.Settled h.0.desc.which) c.in_ok-push-in-Ok.ensures.events c.reserve.ensures.events (ap (λ (w : DataId). event.Settled w) which) in
+    let l = settle_told first s.core s.programs old new s.history.events c.push.new.self.events c.args.node h.0 c.in-Some.place (sym c.in-Some.ensures.place) h.1 c.in-None.is (last_node c.args.node s.core.shape.nodes h.1.saves.below c.requires.last) c.in-Ok.ensures.synced told in
     subst (λ (x : Core). Leads first x s.programs new c.push.new.self.events) (ap (settled_core s.core) (sym which) ∙ sym c.settle.ensures) l
+
+pub returns-in-Err-clause-run : goal.returns-in-Err-clause-run
+returns-in-Err-clause-run g c = on_ok3 c.stop_by_fault.result (λ e k t. ends_saving g.D.Device.state c.args.self.now c.stop_by_fault.new.self c.in-Err.trouble (appended c.stop_by_fault.new.self.history.events c.reserve.new.self.events c.args.self.now.history.events (event.Stop (cause_of c.in-Err.trouble)) (event.Stop (cause_of c.in-Err.trouble)) e c.reserve.ensures.events refl) k c.stop_by_fault.ensures.fixed.programs work.SealedSync c.args.node c.requires.stage t)
+    c.stop_by_fault.ensures.events c.stop_by_fault.ensures.core c.stop_by_fault.ensures.fault
+
+pub returns-in-Err-clause-told : goal.returns-in-Err-clause-told
+returns-in-Err-clause-told g c = on_ok2 c.stop_by_fault.result (λ e t. tells_end g.D.Device.state c.args.self.now c.stop_by_fault.new.self c.in-Err.trouble (appended c.stop_by_fault.new.self.history.events c.reserve.new.self.events c.args.self.now.history.events (event.Stop (cause_of c.in-Err.trouble)) (event.Stop (cause_of c.in-Err.trouble)) e c.reserve.ensures.events refl) (Unit {0}) c.sync_node.new.bay c.stop_by_fault.ensures.bay (fault_is_told c.in-Err.trouble t) c.in-Err.ensures.cause)
+    c.stop_by_fault.ensures.events c.stop_by_fault.ensures.fault
+
+pub returns-in-Err-clause-still : goal.returns-in-Err-clause-still
+returns-in-Err-clause-still g c = moved_stays c.args.self.now c.stop_by_fault.new.self c.stop_by_fault.result c.stop_by_fault.ensures.moved
+
+pub returns-in_ok-push-in-Ok-clause-told : goal.returns-in_ok-push-in-Ok-clause-told
+returns-in_ok-push-in-Ok-clause-told g c =
+    let s = c.args.self.now in
+    let e = event.Settled c.in-Some-saved.which in
+    record { told = e ∷ []; few = omega arith; is = appended c.push.new.self.events c.reserve.new.self.events s.history.events e e c.in_ok-push-in-Ok.ensures.events c.reserve.ensures.events refl; own = (tt, tt); caused = (tt, tt) }

@@ -1,4 +1,4 @@
-use Rattle.std.proofs.Common.{List, ℕ, ap, sym, subst}
+use Rattle.std.proofs.Common.{arith, [], ◌∷◌, List, ℕ, Bool, ap, sym, subst, refl}
 use Rattle.ckpt_model.specs.declared.event.Event.{Event}
 use Rattle.ckpt_model.specs.declared.event.Event.TheVariants as event
 use Rattle.node_device.specs.Rack.{states_of}
@@ -6,18 +6,38 @@ use Rattle.site_core.specs.Holds.{Leads}
 use Rattle.site_core.proofs.Told.{appended}
 use Rattle.site_core.proofs.Telling.{tells_all}
 use Rattle.site_core.proofs.Stored.{stepped, arrived}
+use Rattle.site_core.specs.Causes.{cause_of}
+use Rattle.site_core.proofs.Telling.{on_ok2, on_ok3}
+use Rattle.site_core.proofs.Turns.{ends_storing, tells_end, moved_stays}
 use Rattle.site_core.proofs.site.Site.store.Goals as goal
 
 pub returns-then-not-over-clause-run : goal.returns-then-not-over-clause-run
 returns-then-not-over-clause-run g c = λ tells first f.
     let s = c.args.self.now in
     let state = g.D.Device.state in
-    let l = stepped first s.core s.programs (states_of state s.bay) (states_of state c.store_number.new.bay) s.history.events c.in_ok-over.over c.store_number.new.storing c.requires c.store_number.ensures.want c.in_ok-over.ensures.steps f in
+    let l = stepped first s.core s.programs (states_of state s.bay) (states_of state c.store_number.new.bay) s.history.events c.in-Ok.over c.store_number.new.storing c.requires c.store_number.ensures.want c.in-Ok.ensures.steps f in
     subst (λ (es : List Event). Leads first (record s.core { storing = c.store_number.new.storing }) s.programs (states_of state c.store_number.new.bay) es) (sym c.reserve.ensures.events) l
 
-pub returns-clause-run : goal.returns-clause-run
-returns-clause-run g c = λ tells first f.
+pub returns-in_ok-push-in-Ok-clause-run : goal.returns-in_ok-push-in-Ok-clause-run
+returns-in_ok-push-in-Ok-clause-run g c = λ tells first f.
     let s = c.args.self.now in
     let state = g.D.Device.state in
-    let told = appended c.push.new.self.events c.reserve.new.self.events s.history.events (event.Run s.core.run c.in_ok-places.places) (event.Run s.core.run s.core.places) c.in_ok-push.ensures.events c.reserve.ensures.events (ap (λ (p : List ℕ). event.Run s.core.run p) c.in_ok-places.ensures) in
-    arrived first s.core s.programs (states_of state s.bay) (states_of state c.store_number.new.bay) s.history.events c.push.new.self.events c.in_ok-over.over c.store_number.new.storing c.requires c.if-not-over.false (tells_all state tells s.bay) c.in_ok-over.ensures.steps told f
+    let told = appended c.push.new.self.events c.reserve.new.self.events s.history.events (event.Run s.core.run c.in_ok-places.places) (event.Run s.core.run s.core.places) c.in_ok-push-in-Ok.ensures.events c.reserve.ensures.events (ap (λ (p : List ℕ). event.Run s.core.run p) c.in_ok-places.ensures) in
+    arrived first s.core s.programs (states_of state s.bay) (states_of state c.store_number.new.bay) s.history.events c.push.new.self.events c.in-Ok.over c.store_number.new.storing c.requires c.if-not-over.false (tells_all state tells s.bay) c.in-Ok.ensures.steps told f
+
+pub returns-in-Err-clause-run : goal.returns-in-Err-clause-run
+returns-in-Err-clause-run g c = on_ok3 c.stop_by.result (λ e k t. ends_storing g.D.Device.state c.args.self.now c.stop_by.new.self c.in-Err.trouble (appended c.stop_by.new.self.history.events c.reserve.new.self.events c.args.self.now.history.events (event.Stop (cause_of c.in-Err.trouble)) (event.Stop (cause_of c.in-Err.trouble)) e c.reserve.ensures.events refl) c.store_number.new.storing k c.stop_by.ensures.fixed.programs c.requires t)
+    c.stop_by.ensures.events c.stop_by.ensures.core c.stop_by.ensures.told
+
+pub returns-in-Err-clause-told : goal.returns-in-Err-clause-told
+returns-in-Err-clause-told g c = on_ok2 c.stop_by.result (λ e t. tells_end g.D.Device.state c.args.self.now c.stop_by.new.self c.in-Err.trouble (appended c.stop_by.new.self.history.events c.reserve.new.self.events c.args.self.now.history.events (event.Stop (cause_of c.in-Err.trouble)) (event.Stop (cause_of c.in-Err.trouble)) e c.reserve.ensures.events refl) Bool c.store_number.new.bay c.stop_by.ensures.bay t c.in-Err.ensures.cause)
+    c.stop_by.ensures.events c.stop_by.ensures.told
+
+pub returns-in-Err-clause-still : goal.returns-in-Err-clause-still
+returns-in-Err-clause-still g c = moved_stays c.args.self.now c.stop_by.new.self c.stop_by.result c.stop_by.ensures.moved
+
+pub returns-in_ok-push-in-Ok-clause-told : goal.returns-in_ok-push-in-Ok-clause-told
+returns-in_ok-push-in-Ok-clause-told g c =
+    let s = c.args.self.now in
+    let e = event.Run s.core.run c.in_ok-places.places in
+    record { told = e ∷ []; few = omega arith; is = appended c.push.new.self.events c.reserve.new.self.events s.history.events e e c.in_ok-push-in-Ok.ensures.events c.reserve.ensures.events refl; own = (tt, tt); caused = (tt, tt) }

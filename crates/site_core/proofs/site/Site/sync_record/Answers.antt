@@ -1,17 +1,42 @@
-use Rattle.std.proofs.Common.{sym, subst}
+use Rattle.std.proofs.Common.{Some, List, ◌∙◌, ap, ◌≡◌, sym, subst}
 use Rattle.node_device.specs.Rack.{states_of}
 use Rattle.site_core.specs.declared.core_state.Stage.{Stage}
 use Rattle.site_core.specs.declared.core_state.Work.TheVariants as work
 use Rattle.site_core.specs.Holds.{Leads}
 use Rattle.site_core.proofs.Saving.{staged}
-use Rattle.site_core.proofs.Works.{saves_now, record_after}
+use Rattle.site_core.proofs.Works.{saves_now, record_after, opened_is}
+use Rattle.ckpt_model.specs.Track.{Track}
+use Rattle.ckpt_model.specs.declared.event.Event.{Event}
+use Rattle.site_core.specs.Cores.{dropping_core}
+use Rattle.site_core.proofs.Telling.{on_ok}
+use Rattle.site_core.proofs.LocalSteps.{lead_on}
+use Rattle.site_core.proofs.Refusals.{told_faults}
+use Rattle.site_core.proofs.Removing.{carried_sync}
+use Rattle.site_core.specs.declared.cache.Manifest.{Manifest}
 use Rattle.site_core.proofs.site.Site.sync_record.Goals as goal
 
-pub returns-clause-run : goal.returns-clause-run
-returns-clause-run g c = λ tells first f.
+pub returns-in-Ok-clause-run : goal.returns-in-Ok-clause-run
+returns-in-Ok-clause-run g c = λ tells first f.
     let s = c.args.self.now in
     let old = states_of g.D.Device.state s.bay in
     let new = states_of g.D.Device.state c.sync_node.new.bay in
     let h = saves_now first s.core s.programs old s.history.events work.RecordSync c.args.node c.requires.stage f in
-    let l = record_after first s.core s.programs old new s.history.events c.args.node c.in-Some.place (sym c.in-Some.ensures.place) c.in_ok-sync_node.ensures.synced h.0 h.1 in
+    let l = record_after first s.core s.programs old new s.history.events c.args.node c.in-Some.place (sym c.in-Some.ensures.place) c.in-Ok.ensures.synced h.0 h.1 in
     subst (λ (x : Stage). Leads first (staged s.core x) s.programs new s.history.events) (sym c.after-self.ensures) l
+
+pub returns-in-Err-clause-run : goal.returns-in-Err-clause-run
+returns-in-Err-clause-run g c = on_ok c.carry.result (λ x tells first f.
+    let s = c.args.self.now in
+    let state = g.D.Device.state in
+    let old = states_of state s.bay in
+    let new = states_of state c.sync_node.new.bay in
+    let after = c.carry.new.self in
+    let q = saves_now first s.core s.programs old s.history.events work.RecordSync c.args.node c.requires.stage f in
+    let m = q.0 in
+    let h = q.1 in
+    let same : x.0 ≡ m = opened_is first s.core s.programs old s.history.events work.RecordSync c.args.node m x.0 h x.2 in
+    let opened : s.core.opened ≡ Some m = x.2 ∙ ap (λ (y : Manifest). Some y) same in
+    let l = carried_sync first s.core s.programs old new s.history.events c.args.node m c.in-Some.place (sym c.in-Some.ensures.place) x.1 opened (told_faults c.in-Err.trouble x.1 x.3) h c.in-Err.ensures.refused in
+    subst (λ (es : List Event). Leads first after.core after.programs (states_of state after.bay) es) (sym (ap (λ (t : Track). t.events) c.carry.ensures.history))
+    (lead_on first (dropping_core s.core m.desc.which (Some x.1)) after.core s.programs after.programs new (states_of state after.bay) s.history.events (x.4 ∙ ap (λ (y : Manifest). dropping_core s.core y.desc.which (Some x.1)) same) c.carry.ensures.fixed.programs (ap (states_of state) c.carry.ensures.bay) l))
+    c.carry.ensures.core

@@ -1,10 +1,12 @@
-use Rattle.std.proofs.Common.{ap, ◌+◌}
+use Rattle.std.proofs.Common.{ap, refl, ◌+◌}
 use Rattle.std.specs.Prelude.{slice_set}
 use Rattle.round_core.specs.Seats.{stepped}
 use Rattle.site_core.specs.declared.core_state.Core.{Core}
 use Rattle.node_device.specs.Rack.{states_of}
 use Rattle.ckpt_model.specs.declared.event.Event.TheVariants as event
-use Rattle.site_core.proofs.LocalSteps.{tells_local, lead_on, tells_one}
+use Rattle.site_core.proofs.LocalSteps.{tells_local, lead_on}
+use Rattle.site_core.proofs.Turns.{tells_one, calm_refused}
+use Rattle.site_core.specs.Follows.{IsOfRank}
 use Rattle.site_core.proofs.site.Site.tell_local.Goals as goal
 
 pub returns-clause-run : goal.returns-clause-run
@@ -21,4 +23,6 @@ returns-clause-run g c = λ tells first follows.
 pub returns-clause-told : goal.returns-clause-told
 returns-clause-told g c =
     let n = c.requires.next in
-    tells_one c.args.self.now.history.events c.go_past.new.self.history.events (event.Local c.args.rank (n.seat.number + 1) c.args.step c.args.answer) (c.in_ok-go_past.ensures.events n.seat n.is)
+    let s = c.args.self.now in
+    let state = g.D.Device.state in
+    tells_one (IsOfRank c.args.rank) state s c.go_past.new.self (event.Local c.args.rank (n.seat.number + 1) c.args.step c.args.answer) (c.in_ok-go_past.ensures.events n.seat n.is) refl (calm_refused (states_of state s.bay) (states_of state c.go_past.new.self.bay) c.args.answer c.requires.calm)

@@ -1,9 +1,10 @@
-use Rattle.std.proofs.Common.{refl}
+use Rattle.std.proofs.Common.{refl, ◌∷◌, [], arith}
 use Rattle.ckpt_model.specs.declared.event.Event.TheVariants as event
 use Rattle.node_device.specs.Rack.{states_of}
 use Rattle.site_core.specs.Stored.{cells_of, contents_of}
 use Rattle.site_core.proofs.Told.{appended}
 use Rattle.site_core.proofs.Serving.{decided_on}
+use Rattle.site_core.proofs.Turns.{calm_carried}
 use Rattle.site_core.proofs.site.Site.tell_round.Goals as goal
 
 pub returns-clause-run : goal.returns-clause-run
@@ -12,3 +13,10 @@ returns-clause-run g c = λ tells first f.
     let states = states_of g.D.Device.state s.bay in
     let told = appended c.push.new.self.events c.reserve.new.self.events s.history.events (event.Decided c.args.kind c.args.answer) (event.Decided c.args.kind c.args.answer) c.in_ok-push.ensures.events c.reserve.ensures.events refl in
     decided_on first s.core s.programs states s.history.events c.push.new.self.events c.args.kind c.args.answer c.args.phase c.args.offer c.decide.new.self c.requires.stage (c.requires.steps first f).0 ((c.requires.steps first f).1 (contents_of (cells_of states) s.core)) (c.decide.ensures.decided c.in_ok-decide.was) told f
+
+pub returns-clause-told : goal.returns-clause-told
+returns-clause-told g c =
+    let s = c.args.self.now in
+    let e = event.Decided c.args.kind c.args.answer in
+    let told = appended c.push.new.self.events c.reserve.new.self.events s.history.events e e c.in_ok-push.ensures.events c.reserve.ensures.events refl in
+    record { told = e ∷ []; few = omega arith; is = told; own = (tt, tt); caused = (calm_carried s.core.refusal c.args.answer c.requires.calm, tt) }

@@ -1,4 +1,4 @@
-use Rattle.std.proofs.Common.{◌≡◌, List, ℕ, Some, ap, refl, ◌∙◌, ◌+◌, slice_get}
+use Rattle.std.proofs.Common.{arith, [], ◌∷◌, ◌≡◌, List, ℕ, Some, ap, refl, ◌∙◌, ◌+◌, slice_get}
 use Rattle.std.specs.Prelude.{slice_set}
 use Rattle.filemap.specs.Rows.{place_of, extended}
 use Rattle.filemap.specs.Maps.{rows_of}
@@ -12,14 +12,16 @@ use Rattle.site_core.specs.Cores.{with_rows, with_open}
 use Rattle.site_core.specs.declared.core_state.Core.{Core}
 use Rattle.site_core.proofs.Told.{appended}
 use Rattle.site_core.proofs.LocalCalls.{clear_write}
-use Rattle.site_core.proofs.LocalSteps.{write_told, each_tells, hand_opened, lead_on, tells_one}
+use Rattle.site_core.proofs.LocalSteps.{write_told, each_tells, hand_opened, lead_on}
+use Rattle.site_core.proofs.Telling.{on_ok2}
+use Rattle.site_core.proofs.LocalRefusals.{keeps_put}
 use Rattle.site_core.proofs.site.Site.write.Goals as goal
 
-pub end_of-requires : goal.end_of-requires
-end_of-requires g c = (clear_write c.args.self.now.core c.args.rank c.args.word c.args.at c.args.content c.requires.clear).short
+pub end_of-end-requires : goal.end_of-end-requires
+end_of-end-requires g c = (clear_write c.args.self.now.core c.args.rank c.args.word c.args.at c.args.content c.requires.clear).short
 
-pub returns-clause-run : goal.returns-clause-run
-returns-clause-run g c = λ tells first follows.
+pub returns-in-Ok-clause-run : goal.returns-in-Ok-clause-run
+returns-in-Ok-clause-run g c = λ tells first follows.
     let s = c.args.self.now in
     let state = g.D.Device.state in
     let n = c.requires.next in
@@ -30,19 +32,30 @@ returns-clause-run g c = λ tells first follows.
     let here : slice_get c.extend.new.self.ranks rank ≡ Some n.seat = ap (λ (x : Core). slice_get x.ranks rank) c.extend.ensures.rest ∙ n.is in
     let number = c.number_of-file.ensures.number ∙ ap (λ (w : List ℕ). place_of (rows_at s.core rank) w) c.bytes.ensures.value in
     let e = event.Local rank (n.seat.number + 1) (step.Write c.args.word c.args.at c.args.content) reply.Done in
-    let more = appended after.history.events c.reserve.new.self.events s.history.events e e (c.in_ok-go_past.ensures.events n.seat here) c.reserve.ensures.events refl in
+    let more = appended after.history.events c.reserve.new.self.events s.history.events e e (c.in_ok-go_past-in-Ok.ensures.events n.seat here) c.reserve.ensures.events refl in
     let opened = hand_opened s.core m (clear_write s.core rank c.args.word c.args.at c.args.content c.requires.clear).output c.in-Some.ensures.hand in
-    let core = c.in_ok-go_past.ensures.core n.seat here
-    ∙ ap (λ (x : Core). let y : Core = record x { ranks = slice_set x.ranks rank (stepped n.seat) } in y) (c.in_ok-extend.ensures.ok m opened) in
-    lead_on first (with_open s.core (with_rows m rank (extended (rows_of m.files rank) file c.end_of.result)) (slice_set s.core.ranks rank (stepped n.seat))) after.core s.programs after.programs (states_of state c.put_part.new.bay) (states_of state after.bay) after.history.events
+    let core = c.in_ok-go_past-in-Ok.ensures.core n.seat here
+    ∙ ap (λ (x : Core). let y : Core = record x { ranks = slice_set x.ranks rank (stepped n.seat) } in y) (c.in_ok-extend-in-Ok.ensures.ok m opened) in
+    lead_on first (with_open s.core (with_rows m rank (extended (rows_of m.files rank) file c.end_of-end.result)) (slice_set s.core.ranks rank (stepped n.seat))) after.core s.programs after.programs (states_of state c.put_part.new.bay) (states_of state after.bay) after.history.events
     core c.go_past.ensures.fixed.programs (ap (states_of state) c.go_past.ensures.bay)
-    (write_told first s.core s.programs (states_of state s.bay) (states_of state c.put_part.new.bay) s.history.events after.history.events rank file c.args.word c.args.at c.args.content c.list.result.now c.end_of.result c.in-Some.spot
-    c.requires.stage n c.requires.clear c.in-Some.ensures number c.number_of-file.ensures.rows (c.list.ensures ∙ c.in_ok-bytes.ensures) c.end_of.ensures c.in_ok-put_part.ensures.written (λ p low. each_tells state s.bay tells p) more follows)
+    (write_told first s.core s.programs (states_of state s.bay) (states_of state c.put_part.new.bay) s.history.events after.history.events rank file c.args.word c.args.at c.args.content c.list.result.now c.end_of-end.result c.in-Some.spot
+    c.requires.stage n c.requires.clear c.in-Some.ensures number c.number_of-file.ensures.rows (c.list.ensures ∙ c.in_ok-bytes.ensures) c.end_of-end.ensures c.in-Ok.ensures.written (λ p low. each_tells state s.bay tells p) more follows)
 
-pub returns-clause-told : goal.returns-clause-told
-returns-clause-told g c =
+pub returns-in-Ok-clause-told : goal.returns-in-Ok-clause-told
+returns-in-Ok-clause-told g c =
     let s = c.args.self.now in
     let n = c.requires.next in
     let here : slice_get c.extend.new.self.ranks c.args.rank ≡ Some n.seat = ap (λ (x : Core). slice_get x.ranks c.args.rank) c.extend.ensures.rest ∙ n.is in
     let e = event.Local c.args.rank (n.seat.number + 1) (step.Write c.args.word c.args.at c.args.content) reply.Done in
-    tells_one s.history.events c.go_past.new.self.history.events e (appended c.go_past.new.self.history.events c.reserve.new.self.events s.history.events e e (c.in_ok-go_past.ensures.events n.seat here) c.reserve.ensures.events refl)
+    record { told = e ∷ []; few = omega arith; is = appended c.go_past.new.self.history.events c.reserve.new.self.events s.history.events e e (c.in_ok-go_past-in-Ok.ensures.events n.seat here) c.reserve.ensures.events refl; own = (refl, tt); caused = (tt, tt) }
+
+pub returns-clause-run : goal.returns-clause-run
+returns-clause-run g c = on_ok2 c.refuse_local.result (λ e k.
+    let s = c.args.self.now in
+    let n = c.requires.next in
+    let x = e n.seat n.is in
+    let l = event.Local c.args.rank (n.seat.number + 1) (step.Write c.args.word c.args.at c.args.content) (reply.Refused x.0) in
+    keeps_put g.D.Device.state s c.refuse_local.new.self c.put_part.new.bay c.args.rank (step.Write c.args.word c.args.at c.args.content) c.in-Err.trouble x.0 n.seat c.refuse_local.ensures.bay x.1 n.is
+    (appended c.refuse_local.new.self.history.events c.reserve.new.self.events s.history.events l l x.2 c.reserve.ensures.events refl) (k n.seat n.is) c.refuse_local.ensures.fixed.programs c.requires.stage n c.requires.clear refl
+    c.number_of-file.result c.in-Some.spot ((clear_write s.core c.args.rank c.args.word c.args.at c.args.content c.requires.clear).output) c.in-Some.ensures c.number_of-file.ensures.within c.in-Err.ensures.refused)
+    c.refuse_local.ensures.events c.refuse_local.ensures.core

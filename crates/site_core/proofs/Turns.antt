@@ -1,0 +1,100 @@
+-- What a turn told.
+use Rattle.std.proofs.Common.{◌≡◌, ◌⊎◌, sym, subst, true, false, Option, Result, Ok, Err, IfOk, ap, ◌∙◌, inr, ℕ, List, [], ◌∷◌, ◌++◌, arith}
+use Rattle.node_device.specs.DeviceState.{DeviceState}
+use Rattle.ckpt_model.specs.declared.event.Event.{Event}
+use Rattle.scr_base.specs.declared.answers.Refusal.{Refusal}
+use Rattle.scr_base.specs.declared.answers.Refusal.TheVariants as refusal
+use Rattle.scr_base.specs.declared.answers.Reply.{Reply}
+use Rattle.scr_base.specs.declared.answers.Reply.TheVariants as reply
+use Rattle.ckpt_model.specs.Answers.{is_fault}
+use Rattle.ckpt_model.specs.declared.event.Event.TheVariants as event
+use Rattle.site_core.specs.declared.error.Trouble.{Trouble}
+use Rattle.site_core.specs.Causes.{CallCause, cause_of, is_told, is_device_fault}
+use Rattle.site_core.proofs.Refusals.{ended_by, ended_for}
+use Rattle.scr_base.specs.declared.content.Step.{Step}
+use Rattle.node_device.specs.Rack.{Rack, states_of}
+use Rattle.ckpt_model.specs.Machine.{Machine}
+use Rattle.site_core.specs.Numbers.{Way}
+use Rattle.site_core.specs.declared.core_state.Core.{Core}
+use Rattle.site_core.specs.declared.core_state.Stage.TheVariants as stage
+use Rattle.site_core.specs.declared.core_state.Work.{Work}
+use Rattle.site_core.specs.Holds.{Leads}
+use Rattle.site_core.proofs.Cuts.{cut_core, cut_early, cut_looking, cut_saving, told_ends}
+use Rattle.site_core.proofs.Works.{saves_now}
+use Rattle.site_core.specs.declared.turn.Turn.{Turn}
+use Rattle.site_core.specs.declared.turn.Turn.TheVariants as turn
+use Rattle.site_core.specs.declared.error.SiteError.{SiteError}
+use Rattle.site_core.specs.declared.site.Site.{Site}
+use Rattle.site_core.specs.Follows.{Each, Stays, TellsBy, IsCaused, IsCarried, IsRefusedFor, IsEndedFor, IsOfWorker, Follows, Keeps}
+
+pub tells_one : {D : Type 0} (who : Event → Type 0) (state : D → DeviceState) (old new : Site D) (e : Event) → new.history.events ≡ old.history.events ++ e ∷ [] → who e → IsCaused (states_of state old.bay) (states_of state new.bay) old.core.refusal e → TellsBy who state old new
+tells_one who state old new e is own caused = record { told = e ∷ []; few = omega arith; is = is; own = (own, tt); caused = (caused, tt) }
+
+-- a turn that moved may have changed all
+pub moved_stays : {D : Type 0} (old new : Site D) (r : Result Turn SiteError) → IfOk r (λ (t : Turn). t ≡ turn.Moved) → IfOk r (λ (t : Turn). Stays t old new)
+moved_stays old new (Ok t) is = subst (λ (x : Turn). Stays x old new) (sym is) tt
+moved_stays old new (Err e) is = tt
+
+-- what was told after a call that changed nothing
+pub told_across : {D : Type 0} (who : Event → Type 0) (state : D → DeviceState) (old mid new : Site D) → mid.history.events ≡ old.history.events → mid.core.refusal ≡ old.core.refusal → states_of state mid.bay ≡ states_of state old.bay → TellsBy who state mid new → TellsBy who state old new
+told_across who state old mid new events carried same t = record {
+  told = t.told;
+  few = t.few;
+  is = t.is ∙ ap (λ (es : List Event). es ++ t.told) events;
+  own = t.own;
+  caused = subst (λ (st : ℕ → DeviceState). Each (IsCaused st (states_of state new.bay) old.core.refusal) t.told) same
+      (subst (λ (o : Option Refusal). Each (IsCaused (states_of state mid.bay) (states_of state new.bay) o) t.told) carried t.caused);
+}
+
+-- an answer that is no fault needs no cause
+pub calm_carried : (carried : Option Refusal) (a : Reply) → is_fault a ≡ false → IsCarried carried a
+calm_carried carried (reply.Refused (refusal.Device node count)) e = absurd (cc e)
+calm_carried carried (reply.Refused (refusal.Full node used capacity)) e = absurd (cc e)
+calm_carried carried (reply.Refused (refusal.Mismatch rank)) e = tt
+calm_carried carried (reply.Refused (refusal.Phase phase)) e = tt
+calm_carried carried (reply.Refused refusal.BadName) e = tt
+calm_carried carried (reply.Refused refusal.NoFile) e = tt
+calm_carried carried (reply.Refused refusal.Limit) e = tt
+calm_carried carried (reply.Refused (refusal.NameTaken which)) e = tt
+calm_carried carried _ e = tt
+
+pub calm_refused : (old new : ℕ → DeviceState) (a : Reply) → is_fault a ≡ false → IsRefusedFor old new a
+calm_refused old new (reply.Refused (refusal.Device node count)) e = absurd (cc e)
+calm_refused old new (reply.Refused (refusal.Full node used capacity)) e = absurd (cc e)
+calm_refused old new (reply.Refused (refusal.Mismatch rank)) e = tt
+calm_refused old new (reply.Refused (refusal.Phase phase)) e = tt
+calm_refused old new (reply.Refused refusal.BadName) e = tt
+calm_refused old new (reply.Refused refusal.NoFile) e = tt
+calm_refused old new (reply.Refused refusal.Limit) e = tt
+calm_refused old new (reply.Refused (refusal.NameTaken which)) e = tt
+calm_refused old new _ e = tt
+
+-- ## The end of a run that a refused call brought
+
+module _ {D : Type 0} (state : D → DeviceState) (old new : Site D) (t : Trouble) (is : new.history.events ≡ old.history.events ++ event.Stop (cause_of t) ∷ []) where
+  pub tells_end : (T : Type 0) (bay : Rack D) → new.bay ≡ bay → is_told t ≡ true → CallCause {T = T} (states_of state old.bay) (states_of state bay) (Err t) → TellsBy IsOfWorker state old new
+  tells_end T bay same told why = tells_one IsOfWorker state old new (event.Stop (cause_of t)) is (ended_by t told)
+      (subst (λ (b : Rack D). IsEndedFor (states_of state old.bay) (states_of state b) (cause_of t)) (sym same) (ended_for T (states_of state old.bay) (states_of state bay) t why))
+
+  module _ (core : new.core ≡ cut_core old.core) (programs : new.programs ≡ old.programs) where
+    pub leads_so : (first : Machine) → Leads first (cut_core old.core) old.programs (states_of state new.bay) new.history.events → Follows state first new
+    leads_so first l = subst (λ (x : Core). Leads first x new.programs (states_of state new.bay) new.history.events) (sym core) (subst (λ (ps : List (List Step)). Leads first (cut_core old.core) ps (states_of state new.bay) new.history.events) (sym programs) l)
+
+    pub ends_early : (old.core.stage ≡ stage.Begun) ⊎ (old.core.stage ≡ stage.Storing) → is_told t ≡ true → Keeps state old new
+    ends_early at told tells first f = leads_so first (cut_early first old.core old.programs (states_of state old.bay) (states_of state new.bay) old.history.events new.history.events (cause_of t) at (told_ends t told) is f)
+
+    pub ends_looking : old.core.stage ≡ stage.Looking → is_told t ≡ true → Keeps state old new
+    ends_looking at told tells first f = leads_so first (cut_looking first old.core old.programs (states_of state old.bay) (states_of state new.bay) old.history.events new.history.events (cause_of t) at (told_ends t told) is f)
+
+    pub ends_saving : (w : Work) (n : ℕ) → old.core.stage ≡ stage.Saving w n → is_device_fault t ≡ true → Keeps state old new
+    ends_saving w n at fault tells first f =
+        let h = saves_now first old.core old.programs (states_of state old.bay) old.history.events w n at f in
+        leads_so first (cut_saving first old.core old.programs (states_of state old.bay) (states_of state new.bay) old.history.events new.history.events t w n h.0 h.1 fault is)
+
+  -- the number's way may have changed with it
+  pub ends_storing : (w : Way) → new.core ≡ (let x : Core = record old.core { stage = stage.Cut; storing = w } in x) → new.programs ≡ old.programs → old.core.stage ≡ stage.Storing → is_told t ≡ true → Keeps state old new
+  ends_storing w core programs at told tells first f =
+      let l = cut_early first old.core old.programs (states_of state old.bay) (states_of state new.bay) old.history.events new.history.events (cause_of t) (inr at) (told_ends t told) is f in
+      let m : Leads first (let x : Core = record old.core { stage = stage.Cut; storing = w } in x) old.programs (states_of state new.bay) new.history.events = record { state = l.state; run = l.run; holds = tt; told = l.told } in
+      subst (λ (x : Core). Leads first x new.programs (states_of state new.bay) new.history.events) (sym core)
+      (subst (λ (ps : List (List Step)). Leads first (let x : Core = record old.core { stage = stage.Cut; storing = w } in x) ps (states_of state new.bay) new.history.events) (sym programs) m)

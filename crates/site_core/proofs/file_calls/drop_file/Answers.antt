@@ -1,0 +1,28 @@
+use Rattle.std.proofs.Common.{Bool, Err, sym, subst}
+use Rattle.node_device.specs.Rack.{states_of}
+use Rattle.site_core.specs.Causes.{CallCause}
+use Rattle.site_core.specs.declared.error.Trouble.{Trouble}
+use Rattle.site_core.proofs.CallCauses.{refused}
+use Rattle.site_core.proofs.RefusedCalls.{file_dropped, drop_refused, leaving-same}
+use Rattle.site_core.proofs.file_calls.drop_file.Goals as goal
+
+pub returns-in-Ok-clause-dropped : goal.returns-in-Ok-clause-dropped
+returns-in-Ok-clause-dropped g c =
+    let old = states_of g.D.Device.state c.args.bay.now in
+    let new = states_of g.D.Device.state c.drop_file_at.new.bay in
+    let r = c.args.removal.now in
+    record {
+      here = file_dropped r.which r.node c.in-Ok.over r.changes c.drop_file_at.new.removal.changes (old c.args.place) (new c.args.place) c.in-Ok.ensures.drops.here;
+      others = c.in-Ok.ensures.drops.others;
+    }
+
+pub returns-in-Err-clause-stays : goal.returns-in-Err-clause-stays
+returns-in-Err-clause-stays g c = leaving-same c.args.removal.now c.drop_file_at.new.removal c.drop_file_at.ensures.which c.drop_file_at.ensures.node c.in-Err.ensures.drops.here.refused.0
+
+pub returns-in-Err-clause-cause : goal.returns-in-Err-clause-cause
+returns-in-Err-clause-cause g c =
+    let old = states_of g.D.Device.state c.args.bay.now in
+    let new = states_of g.D.Device.state c.drop_file_at.new.bay in
+    let r = c.args.removal.now in
+    let why = drop_refused c.args.place r.which r.node r.changes c.drop_file_at.new.removal.changes (old c.args.place) (new c.args.place) c.in-Err.error c.in-Err.ensures.drops.here in
+    subst (λ (e : Trouble). CallCause {T = Bool} old new (Err e)) (sym c.trouble_at.ensures) (refused c.args.place old new c.in-Err.ensures.drops.others Bool Bool c.in-Err.error c.in-Err.ensures.drops.here.cause why)

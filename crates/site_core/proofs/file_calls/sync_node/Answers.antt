@@ -1,0 +1,13 @@
+use Rattle.node_device.specs.Rack.{states_of}
+use Rattle.node_device.proofs.Racks.{states_of-sound}
+use Rattle.site_core.proofs.RefusedCalls.{sync_refused}
+use Rattle.site_core.proofs.file_calls.sync_node.Goals as goal
+
+pub returns-in-Err-clause-refused : goal.returns-in-Err-clause-refused
+returns-in-Err-clause-refused g c =
+    let old = states_of g.D.Device.state c.args.bay.now in
+    let new = states_of g.D.Device.state c.sync_at.new.self in
+    record {
+      here = sync_refused {T = Unit {0}} (old c.args.place) (new c.args.place) c.in-Err.error (states_of-sound g.D.Device.state g.met.D.Device.sound c.sync_at.new.self c.args.place) c.in-Err.ensures.here;
+      others = c.in-Err.ensures.others;
+    }

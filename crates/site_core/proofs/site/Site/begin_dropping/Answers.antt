@@ -1,0 +1,14 @@
+use Rattle.std.proofs.Common.{Option, IfSome, sym, subst}
+use Rattle.scr_base.specs.declared.shape.DataId.{DataId}
+use Rattle.node_device.specs.Rack.{states_of}
+use Rattle.site_core.specs.Holds.{Leads, IsDropRound}
+use Rattle.site_core.specs.declared.core_state.Core.{Core}
+use Rattle.site_core.proofs.Removing.{dropping_begins}
+use Rattle.site_core.proofs.site.Site.begin_dropping.Goals as goal
+
+pub returns-clause-run : goal.returns-clause-run
+returns-clause-run g c = λ tells first f.
+    let s = c.args.self.now in
+    let states = states_of g.D.Device.state s.bay in
+    subst (λ (x : Core). Leads first x s.programs states s.history.events) (sym c.begin_dropping.ensures)
+    (dropping_begins first s.core s.programs states s.history.events c.in-Some.which c.requires.stage (subst (λ (o : Option DataId). IfSome o (λ which. IsDropRound s.core which)) c.in-Some.is c.in_ok-asked.ensures.round) f)

@@ -1,0 +1,18 @@
+use Rattle.std.proofs.Common.{◌∙◌, List, [], map, filter, ap, refl}
+use Rattle.ckpt_model.specs.declared.event.Event.TheVariants as event
+use Rattle.ckpt_model.specs.declared.event.FoundRow.{FoundRow}
+use Rattle.ckpt_model.specs.declared.event.EntryRow.{EntryRow}
+use Rattle.site_core.specs.declared.cache.Cached.{Cached}
+use Rattle.site_core.specs.Shown.{row_of}
+use Rattle.site_core.specs.Cores.{recovered, seen_core}
+use Rattle.site_core.proofs.Told.{appended}
+use Rattle.site_core.proofs.site.Site.find.Goals as goal
+
+pub returns-clause-found : goal.returns-clause-found
+returns-clause-found g c = c.find.ensures ∙ ap (λ (k : List Cached). recovered (seen_core c.args.self.now.core k)) c.in_ok-kept.ensures
+
+pub returns-clause-events : goal.returns-clause-events
+returns-clause-events g c =
+    let s = c.args.self.now in
+    appended c.push.new.self.events s.history.events s.history.events (event.Found c.in_ok-rows.field-0 c.no_entries.result) (event.Found (map row_of (map Rattle.site_core.specs.Looks.found_member (filter Rattle.site_core.specs.Looks.is_standing c.args.members.items))) []) c.in_ok-push.ensures.events refl
+    (ap (λ (r : List FoundRow). event.Found r c.no_entries.result) (c.in_ok-rows.ensures ∙ ap (map row_of) c.in_ok-kept.ensures) ∙ ap (λ (r : List EntryRow). event.Found (map row_of (map Rattle.site_core.specs.Looks.found_member (filter Rattle.site_core.specs.Looks.is_standing c.args.members.items))) r) c.no_entries.ensures)

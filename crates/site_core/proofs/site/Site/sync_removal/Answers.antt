@@ -1,0 +1,26 @@
+use Rattle.std.proofs.Common.{◌+◌, ◌-◌, sym, subst}
+use Rattle.std.specs.Prelude.{nat_lt, if◌then◌else◌}
+use Rattle.node_device.specs.Rack.{states_of}
+use Rattle.site_core.specs.Cores.{next_drop_core}
+use Rattle.site_core.specs.Holds.{Leads}
+use Rattle.site_core.specs.declared.core_state.Core.{Core}
+use Rattle.site_core.specs.declared.core_state.Drop.TheVariants as drop
+use Rattle.site_core.specs.declared.core_state.Stage.TheVariants as stage
+use Rattle.site_core.proofs.Removing.{removal_synced}
+use Rattle.site_core.proofs.DroppedRounds.{ends_dropping}
+use Rattle.site_core.proofs.Telling.{on_ok3}
+use Rattle.site_core.proofs.site.Site.sync_removal.Goals as goal
+
+pub returns-in-Ok-clause-run : goal.returns-in-Ok-clause-run
+returns-in-Ok-clause-run g c = λ tells first f.
+    let s = c.args.self.now in
+    let old = states_of g.D.Device.state s.bay in
+    let new = states_of g.D.Device.state c.sync_node.new.bay in
+    let n = c.args.node in
+    let next : Core = if nat_lt n (s.core.shape.nodes - 1) then next_drop_core s.core (n + 1) else record s.core { stage = stage.Dropped } in
+    subst (λ (x : Core). Leads first x s.programs new s.history.events) (sym {b = next} c.drop_after.ensures)
+    (removal_synced first s.core s.programs old new s.history.events n c.in-Some.place c.requires.stage (sym c.in-Some.ensures.place) f c.in-Ok.ensures.synced)
+
+pub returns-in-Err-clause-run : goal.returns-in-Err-clause-run
+returns-in-Err-clause-run g c = on_ok3 c.stop_by_fault.result (λ e k t. ends_dropping g.D.Device.state c.args.self.now c.stop_by_fault.new.self c.in-Err.trouble e k c.stop_by_fault.ensures.fixed.programs drop.Sync c.args.node c.requires.stage t)
+    c.stop_by_fault.ensures.events c.stop_by_fault.ensures.core c.stop_by_fault.ensures.fault

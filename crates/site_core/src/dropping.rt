@@ -1,0 +1,142 @@
+// The moves of the evictor: the files of an open dataset that isn't to be kept are removed.
+ghost use Rattle.std.specs.Prelude.{◌≡◌, ◌+◌, ◌<◌, ◌≤◌, true, None, Some, IfOk, OnOk, OnErr};
+ghost use Rattle.std.specs.Prelude.{if◌then◌else◌};
+ghost use Rattle.site_core.specs.Choosing.{is_to_drop};
+ghost use Rattle.site_core.specs.Waiting.{evictor_turn};
+ghost use Rattle.site_core.specs.Follows.{Keeps, TellsBy, IsOfWorker, IsOfRound, IsSameRun, Stays};
+
+use crate::core_state::{Drop, Stage};
+use crate::error::SiteError;
+use crate::file_calls::{drop_file, sync_node};
+use crate::removal::Removal;
+use crate::site::Site;
+use crate::turn::{Turn, Why};
+use ckpt_model::{Event, Kind};
+use node_device::Device;
+
+impl<D: Device> Site<D> {
+    /// The evictor's turn.
+    pub(crate) fn evict(&mut self) -> Result<Turn, SiteError>
+        ensures run { OnOk result (Keeps D.state self.old self.new) }
+        ensures told { OnOk result (TellsBy IsOfWorker D.state self.old self.new) }
+        ensures refused { OnErr result (self.new.history.events ≡ self.old.history.events) }
+        ensures fixed { IsSameRun self.old self.new }
+        ensures still { IfOk result (λ turn. Stays turn self.old self.new) }
+        ensures waits { IfOk result (λ turn. turn ≡ evictor_turn self.old.core.stage self.old.core) }
+    {
+        match self.core.stage {
+            Stage::Serving => self.begin_dropping(),
+            Stage::Dropping { drop, node } => self.drop_on(drop, node),
+            Stage::Begun
+            | Stage::Storing
+            | Stage::Looking
+            | Stage::Mending
+            | Stage::Saving { .. }
+            | Stage::Dropped => Ok(Turn::NotYet { why: Why::Idle }),
+            Stage::Stopped | Stage::Cut => Ok(Turn::Ended),
+        }
+    }
+
+    /// The removal begins once the ranks ask for it.
+    fn begin_dropping(&mut self) -> Result<Turn, SiteError>
+        requires stage { self.old.core.stage ≡ Stage.Serving }
+        ensures run { OnOk result (Keeps D.state self.old self.new) }
+        ensures told { OnOk result (TellsBy IsOfWorker D.state self.old self.new) }
+        ensures refused { OnErr result (self.new.history.events ≡ self.old.history.events) }
+        ensures fixed { IsSameRun self.old self.new }
+        ensures still { IfOk result (λ turn. Stays turn self.old self.new) }
+        ensures waits { IfOk result (λ turn. turn ≡ (if is_to_drop self.old.core then Turn.Moved else Turn.NotYet Why.Idle)) }
+    {
+        let asked = self.core.to_drop(self.alloc)?;
+        let Some(which) = asked else {
+            return Ok(Turn::NotYet { why: Why::Idle });
+        };
+        self.core.begin_dropping(which, None);
+        Ok(Turn::Moved)
+    }
+
+    /// The change that comes next.
+    fn drop_on(&mut self, drop: Drop, node: u8) -> Result<Turn, SiteError>
+        requires stage { self.old.core.stage ≡ Stage.Dropping drop node }
+        ensures run { OnOk result (Keeps D.state self.old self.new) }
+        ensures told { OnOk result (TellsBy IsOfWorker D.state self.old self.new) }
+        ensures refused { OnErr result (self.new.history.events ≡ self.old.history.events) }
+        ensures fixed { IsSameRun self.old self.new }
+        ensures still { IfOk result (λ turn. Stays turn self.old self.new) }
+        ensures moved { IfOk result (λ turn. turn ≡ Turn.Moved) }
+    {
+        match drop {
+            Drop::File => self.remove_file(node),
+            Drop::Sync => self.sync_removal(node),
+        }
+    }
+
+    /// A file of the node's member is removed, if one is left.
+    fn remove_file(&mut self, node: u8) -> Result<Turn, SiteError>
+        requires stage { self.old.core.stage ≡ Stage.Dropping Drop.File node }
+        ensures run { OnOk result (Keeps D.state self.old self.new) }
+        ensures told { OnOk result (TellsBy IsOfWorker D.state self.old self.new) }
+        ensures refused { OnErr result (self.new.history.events ≡ self.old.history.events) }
+        ensures fixed { IsSameRun self.old self.new }
+        ensures still { IfOk result (λ turn. Stays turn self.old self.new) }
+        ensures moved { IfOk result (λ turn. turn ≡ Turn.Moved) }
+    {
+        let Some(place) = self.core.places.of_node(node) else {
+            return Err(SiteError::Memory);
+        };
+        match drop_file(self.alloc, &mut self.bay, place, &mut self.core.removal) {
+            Ok(true) => {
+                self.core.stage = Stage::Dropping {
+                    drop: Drop::Sync,
+                    node,
+                };
+                Ok(Turn::Moved)
+            }
+            Ok(false) => Ok(Turn::Moved),
+            Err(trouble) => self.stop_by_fault(trouble),
+        }
+    }
+
+    /// What was removed on the node is made stable; the next node comes, or the round is to be decided.
+    fn sync_removal(&mut self, node: u8) -> Result<Turn, SiteError>
+        requires stage { self.old.core.stage ≡ Stage.Dropping Drop.Sync node }
+        ensures run { OnOk result (Keeps D.state self.old self.new) }
+        ensures told { OnOk result (TellsBy IsOfWorker D.state self.old self.new) }
+        ensures refused { OnErr result (self.new.history.events ≡ self.old.history.events) }
+        ensures fixed { IsSameRun self.old self.new }
+        ensures still { IfOk result (λ turn. Stays turn self.old self.new) }
+        ensures moved { IfOk result (λ turn. turn ≡ Turn.Moved) }
+    {
+        let Some(place) = self.core.places.of_node(node) else {
+            return Err(SiteError::Memory);
+        };
+        match sync_node(&mut self.bay, place) {
+            Ok(()) => {
+                self.core.drop_after(node);
+                Ok(Turn::Moved)
+            }
+            Err(trouble) => self.stop_by_fault(trouble),
+        }
+    }
+
+    /// The round is decided: the dataset isn't kept, or a device refused it.
+    pub(crate) fn decide_dropped(&mut self) -> Result<Turn, SiteError>
+        requires stage { self.old.core.stage ≡ Stage.Dropped }
+        ensures run { OnOk result (Keeps D.state self.old self.new) }
+        ensures told { OnOk result (TellsBy IsOfRound D.state self.old self.new) }
+        ensures refused { OnErr result (self.new.history.events ≡ self.old.history.events) }
+        ensures fixed { IsSameRun self.old self.new }
+        ensures still { IfOk result (λ turn. Stays turn self.old self.new) }
+        ensures moved { IfOk result (λ turn. turn ≡ Turn.Moved) }
+    {
+        let answer = self.core.dropped_answer();
+        self.history.reserve(1)?;
+        self.core.ranks.decide(self.alloc, &answer)?;
+        self.history.push(Event::Decided {
+            kind: Kind::Complete,
+            answer,
+        })?;
+        self.core.close_dropped();
+        Ok(Turn::Moved)
+    }
+}

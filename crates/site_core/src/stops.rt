@@ -1,0 +1,58 @@
+// The ends of a run that a device brings.
+ghost use Rattle.std.specs.Prelude.{◌≡◌, ◌++◌, ◌∷◌, [], true, IfOk, OnOk, OnErr};
+ghost use Rattle.ckpt_model.specs.declared.event.Event.TheVariants as event;
+ghost use Rattle.site_core.specs.Causes.{cause_of, is_told, is_device_fault};
+ghost use Rattle.site_core.specs.Follows.{IsSameRun};
+
+use crate::core_state::Stage;
+use crate::error::{SiteError, Trouble};
+use crate::site::Site;
+use crate::turn::Turn;
+use ckpt_model::{Event, StopCause};
+use node_device::Device;
+
+impl<D: Device> Site<D> {
+    /// A device refused a call without which the run can't go on: it is over. After want of memory all is as before.
+    pub(crate) fn stop_by(&mut self, trouble: Trouble) -> Result<Turn, SiteError>
+        ensures events { OnOk result (self.new.history.events ≡ self.old.history.events ++ event.Stop (cause_of trouble) ∷ []) }
+        ensures core { OnOk result (self.new.core ≡ record self.old.core { stage = Stage.Cut }) }
+        ensures moved { IfOk result (λ turn. turn ≡ Turn.Moved) }
+        ensures told { OnOk result (is_told trouble ≡ true) }
+        ensures refused { OnErr result (self.new ≡ self.old) }
+        ensures fixed { IsSameRun self.old self.new }
+        ensures bay { self.new.bay ≡ self.old.bay }
+    {
+        let cause = match trouble {
+            Trouble::Memory => return Err(SiteError::Memory),
+            Trouble::Fault { node, count } => StopCause::Device { node, count },
+            Trouble::Full {
+                node,
+                used,
+                capacity,
+            } => StopCause::Full {
+                node,
+                used,
+                capacity,
+            },
+        };
+        self.history.push(Event::Stop { cause })?;
+        self.core.stage = Stage::Cut;
+        Ok(Turn::Moved)
+    }
+
+    /// A device failed at a call that no full device refuses: the run is over. After want of memory all is as before.
+    pub(crate) fn stop_by_fault(&mut self, trouble: Trouble) -> Result<Turn, SiteError>
+        ensures events { OnOk result (self.new.history.events ≡ self.old.history.events ++ event.Stop (cause_of trouble) ∷ []) }
+        ensures core { OnOk result (self.new.core ≡ record self.old.core { stage = Stage.Cut }) }
+        ensures moved { IfOk result (λ turn. turn ≡ Turn.Moved) }
+        ensures fault { OnOk result (is_device_fault trouble ≡ true) }
+        ensures refused { OnErr result (self.new ≡ self.old) }
+        ensures fixed { IsSameRun self.old self.new }
+        ensures bay { self.new.bay ≡ self.old.bay }
+    {
+        match trouble {
+            Trouble::Fault { node: _, count: _ } => self.stop_by(trouble),
+            _ => Err(SiteError::Memory),
+        }
+    }
+}
