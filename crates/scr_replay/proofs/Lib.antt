@@ -1,9 +1,8 @@
 mod Orders
-mod Restarts
 mod Fronts
 mod Same
 mod Lengths
-mod Causes
-mod Plain
+mod Forms
+mod Rooms
 mod Replayed
 mod Cuts

@@ -1,5 +1,7 @@
 -- What is replayed part by part is replayed whole.
-use Rattle.std.proofs.Common.{◌≡◌, ℕ, true, List, [], ◌++◌, ◌∷◌, Option, Some, None, option_map, refl, sym, ap, ◌∙◌, subst, append_assoc, append-nil}
+use Rattle.std.proofs.Common.{◌≡◌, ◌⊎◌, inl, inr, ℕ, Bool, true, false, List, [], ◌++◌, ◌∷◌, Option, Some, None, option_map, refl, sym, ap, ◌∙◌, subst, append_assoc, append-nil}
+use Rattle.std.specs.Prelude.{not, ◌&&◌}
+use Rattle.std.specs.List.{list_all}
 use Rattle.std.proofs.lemmas.List.Concat.{flat_map-append}
 use Rattle.scr_base.specs.Streams.{Joins}
 use Rattle.scr_base.specs.declared.content.Step.{Step}
@@ -16,12 +18,25 @@ use Rattle.ckpt_model.specs.declared.stop_line.StopPlace.TheVariants as stop
 use Rattle.script_reader.specs.declared.script.Item.TheVariants as item
 use Rattle.script_reader.specs.declared.script.RunItem.{RunItem}
 use Rattle.site_core.specs.Calls.{TellsAll}
-use Rattle.site_core.specs.Follows.{Stands, Ends}
-use Rattle.site_core.specs.Holds.{HasRest}
+use Rattle.site_core.specs.Follows.{Stands, Ends, WasCut}
+use Rattle.site_core.specs.Holds.{HasRest, is_cut}
+use Rattle.site_core.specs.Waiting.{is_over}
+use Rattle.site_core.specs.declared.core_state.Stage.{Stage}
+use Rattle.site_core.specs.declared.core_state.Stage.TheVariants as stage
+use Rattle.ckpt_model.specs.declared.event.StopCause.{StopCause}
+use Rattle.ckpt_model.specs.declared.event.Event.TheVariants as event
 use Rattle.scr_replay.specs.Forms.{is_end}
 use Rattle.scr_replay.specs.Items.{place_of, legal_item}
 use Rattle.scr_replay.specs.Outputs.{JoinsFront}
-use Rattle.scr_replay.specs.Runs.{IsPlayed, IsReplayed, IsCutShort}
+use Rattle.scr_replay.specs.Runs.{goes_well, IsPlayed, IsReplayed, IsCutShort}
+
+and_parts : (a b : Bool) → a && b ≡ true → (a ≡ true) × (b ≡ true)
+and_parts true b e = (refl, e)
+and_parts false b e = absurd (cc e)
+
+both_true : (a b : Bool) → a ≡ true → b ≡ true → a && b ≡ true
+both_true true b p q = q
+both_true false b p q = absurd (cc p)
 
 joined : (first mid last : Option (List ℕ)) (a b : List ℕ) → Joins first mid a → Joins mid last b → Joins first last (a ++ b)
 joined None mid last a b one two = two ∙ ap (option_map (λ (held : List ℕ). held ++ b)) one
@@ -41,15 +56,24 @@ legal_then s (x ∷ xs) ys m mid new es fs one two =
 
 -- nothing was replayed yet
 pub none_replayed : {D : Type 0} (state : D → DeviceState) (s : Setup) (states : ℕ → DeviceState) (held : Option (List ℕ)) → IsReplayed state s [] states states held held
-none_replayed state s states None = record { events = []; played = λ tells first stands. (first, (refl, refl), stands); printed = refl }
+none_replayed state s states None = record { events = []; played = λ tells first stands well. (first, (refl, refl), stands); printed = refl }
 none_replayed state s states (Some held) =
-    record { events = []; played = λ tells first stands. (first, (refl, refl), stands); printed = ap (λ (h : List ℕ). Some h) (sym (append-nil held)) }
+    record { events = []; played = λ tells first stands well. (first, (refl, refl), stands); printed = ap (λ (h : List ℕ). Some h) (sym (append-nil held)) }
+
+-- what holds of all holds of both parts
+all_parts : (test : Event → Bool) (es fs : List Event) → list_all test (es ++ fs) ≡ true → (list_all test es ≡ true) × (list_all test fs ≡ true)
+all_parts test [] fs all = (refl, all)
+all_parts test (e ∷ es) fs all =
+    let p = and_parts (test e) (list_all test (es ++ fs)) all in
+    let q = all_parts test es fs p.1 in
+    (both_true (test e) (list_all test es) p.0 q.0, q.1)
 
 played_then : {D : Type 0} (state : D → DeviceState) (s : Setup) (xs ys : List Item) (a b c : ℕ → DeviceState) (es fs : List Event) → IsPlayed state s xs a b es → IsPlayed state s ys b c fs → IsPlayed state s (xs ++ ys) a c (es ++ fs)
 played_then state s xs ys a b c es fs one two =
-    λ tells m stands.
-    let x = one tells m stands in
-    let y = two tells x.0 x.2 in
+    λ tells m stands well.
+    let parts = all_parts goes_well es fs well in
+    let x = one tells m stands parts.0 in
+    let y = two tells x.0 x.2 parts.1 in
     (y.0, legal_then s xs ys m x.0 y.0 es fs x.1 y.1, y.2)
 
 pub replayed_then : {D : Type 0} (state : D → DeviceState) (s : Setup) (xs ys : List Item) (a b c : ℕ → DeviceState) (first mid last : Option (List ℕ)) → IsReplayed state s xs a b first mid → IsReplayed state s ys b c mid last → IsReplayed state s (xs ++ ys) a c first last
@@ -106,13 +130,38 @@ run_legal s run over first places programs events p q r end =
 -- the devices were stopped after a run
 pub run_played : {D : Type 0} (state : D → DeviceState) (s : Setup) (run : RunItem) (old over new : ℕ → DeviceState) (places : List ℕ) (programs : List (List Step)) (events : List Event)
     → places ≡ run.places → programs ≡ run.programs → is_end run.stop.place ≡ true
-    → (TellsAll state → (first : Machine) → Stands s old first → Ends s over first places programs events)
+    → (TellsAll state → (first : Machine) → Stands s old first → list_all goes_well events ≡ true → Ends s over first places programs events)
     → (TellsAll state → (m : Machine) → HasRest s over m → Stands s new m)
     → IsPlayed state s (legal_item (item.Run run) ∷ []) old new events
 run_played state s run old over new places programs events p q r ends stands =
-    λ tells first begins.
-    let end = ends tells first begins in
+    λ tells first begins well.
+    let end = ends tells first begins well in
     (end.state, run_legal s run over first places programs events p q r end, stands tells end.state end.rest)
+
+-- a run that was cut short doesn't go well
+cut_fails : (front : List Event) (why : StopCause) → is_cut why ≡ true → list_all goes_well (front ++ event.Stop why ∷ []) ≡ true → ⊥
+cut_fails [] why cut well = absurd (cc (cut, (and_parts (not (is_cut why)) true well).0))
+cut_fails (e ∷ es) why cut well = cut_fails es why cut (and_parts (goes_well e) (list_all goes_well (es ++ event.Stop why ∷ [])) well).1
+
+stopped_or_cut : (s : Stage) → is_over s ≡ true → (s ≡ stage.Stopped) ⊎ (s ≡ stage.Cut)
+stopped_or_cut stage.Stopped e = inl refl
+stopped_or_cut stage.Cut e = inr refl
+stopped_or_cut stage.Begun e = absurd (cc e)
+stopped_or_cut stage.Storing e = absurd (cc e)
+stopped_or_cut stage.Looking e = absurd (cc e)
+stopped_or_cut stage.Mending e = absurd (cc e)
+stopped_or_cut stage.Serving e = absurd (cc e)
+stopped_or_cut (stage.Saving work node) e = absurd (cc e)
+stopped_or_cut (stage.Dropping drop node) e = absurd (cc e)
+stopped_or_cut stage.Dropped e = absurd (cc e)
+
+-- a run that is over, and went well, came to its end
+pub ends_well : (s : Setup) (over : ℕ → DeviceState) (first : Machine) (places : List ℕ) (programs : List (List Step)) (events : List Event) (at : Stage) → is_over at ≡ true
+    → (at ≡ stage.Stopped → Ends s over first places programs events) → (at ≡ stage.Cut → WasCut s first places programs events) → list_all goes_well events ≡ true → Ends s over first places programs events
+ends_well s over first places programs events at is ends cut well = elim (stopped_or_cut at is) [
+  | inl stopped ↦ ends stopped
+  | inr short ↦ let item = (cut short).item in absurd (cut_fails item.front item.cause item.cut (subst (λ (es : List Event). list_all goes_well es ≡ true) item.is well))
+]
 
 abbrev setup_with : Shape → Config → Setup
 setup_with shape config = record { shape = shape; config = config }

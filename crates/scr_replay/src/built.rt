@@ -1,26 +1,21 @@
 // Which scripts are built.
-ghost use Rattle.std.specs.Prelude.{◌≡◌, [], bytes_eq, count_by};
-ghost use Rattle.std.specs.List.{list_all, list_any};
+ghost use Rattle.std.specs.Prelude.{◌≡◌, bytes_eq};
+ghost use Rattle.std.specs.List.{list_all};
 ghost use Rattle.scr_base.specs.Sets.{numbers_below};
 ghost use Rattle.script_reader.specs.Values.{size_of};
 ghost use Rattle.script_reader.specs.Grammar.{job_of};
-ghost use Rattle.scr_replay.specs.Forms.{is_plain_config, is_end, ends_by_itself, is_plain_run, first_name, is_save_program, is_save_run, is_restart_run, are_built, started, starts, starts_again, are_distinct, is_built};
+ghost use Rattle.scr_replay.specs.Forms.{is_single, ends_by_itself, has_actor, has_turn, is_of_site, are_built_steps, is_built_run, is_built_item, first_program, first_steps_of, first_steps, has_room, is_unflushed, is_built};
 
-use crate::names::is_name;
-use crate::steps::{is_restart_program, is_save_program, started_name};
+use crate::steps::{are_built_steps, count_starts, has_room, room_behind};
 use ckpt_model::{StopLine, StopPlace};
-use scr_base::{Items, Scheme, Shape, Step};
-use script_reader::{Item, RunItem, Script};
+use scr_base::{Actor, Items, Scheme, Shape, Step};
+use script_reader::{Item, RunItem, Script, TurnLine};
 
-/// Whether the datasets are kept without copies, and all settings but the cache are as by default.
-fn is_plain_config(script: &Script) -> bool
-    ensures { result ≡ is_plain_config (job_of script.now) }
+/// Whether the datasets are kept without copies.
+fn is_single(scheme: Scheme) -> bool
+    ensures { result ≡ is_single scheme }
 {
-    let config = script.config;
-    matches!(config.scheme, Scheme::Single)
-        && config.size == 8
-        && config.flush == 10
-        && config.interval == 1
+    matches!(scheme, Scheme::Single)
 }
 
 /// Whether the run ends by itself, and what was written is there then.
@@ -45,153 +40,121 @@ fn are_in_order(places: &[u8], nodes: u8) -> bool
     true
 }
 
-/// Whether each node stands in its place, each rank has its program, the turns go round, and the run ends by itself.
-fn is_plain_run(shape: Shape, run: &RunItem) -> bool
-    ensures { result ≡ is_plain_run (size_of shape) run.now }
+/// Whether the actor is one of a site of so many ranks.
+fn has_actor(ranks: usize, actor: Actor) -> bool
+    ensures { result ≡ has_actor ranks actor }
 {
-    are_in_order(run.places.list(), shape.nodes)
-        && run.programs.list().len() == shape.nodes as usize * shape.ranks as usize
-        && run.turns.list().len() == 0
-        && ends_by_itself(&run.stop)
+    match actor {
+        Actor::Rank { rank } => (rank as usize) < ranks,
+        _ => true,
+    }
 }
 
-/// The name of the dataset that the first rank starts, and no bytes where it starts none.
-fn first_name(programs: &[Items<Step>]) -> &[u8]
-    ensures { result.now ≡ first_name programs.now }
+/// Whether the turns are of actors of a site of so many ranks.
+fn has_turns(ranks: usize, turns: &[TurnLine]) -> bool
+    ensures { result ≡ list_all (has_turn ranks) turns.now }
+{
+    turns.iter().all(|turn| has_actor(ranks, turn.actor))
+}
+
+/// Whether each rank has its program, and the turns are of the site's actors, as in every script that is read.
+fn is_of_site(shape: Shape, run: &RunItem) -> bool
+    ensures { result ≡ is_of_site (size_of shape) run.now }
+{
+    let ranks = shape.nodes as usize * shape.ranks as usize;
+    run.programs.list().len() == ranks && has_turns(ranks, run.turns.list())
+}
+
+fn are_built_programs(programs: &[Items<Step>]) -> bool
+    ensures { result ≡ list_all are_built_steps programs.now }
+{
+    programs
+        .iter()
+        .all(|program| are_built_steps(program.list()))
+}
+
+/// Whether each node stands in its place, the run ends by itself, and its steps are built.
+fn is_built_run(shape: Shape, run: &RunItem) -> bool
+    ensures { result ≡ is_built_run (size_of shape) run.now }
+{
+    are_in_order(run.places.list(), shape.nodes)
+        && is_of_site(shape, run)
+        && ends_by_itself(&run.stop)
+        && are_built_programs(run.programs.list())
+}
+
+/// Whether the item is a run that is built.
+fn is_built_item(shape: Shape, item: &Item) -> bool
+    ensures { result ≡ is_built_item (size_of shape) item.now }
+{
+    match item {
+        Item::Run { run } => is_built_run(shape, run),
+        _ => false,
+    }
+}
+
+fn are_built_items(shape: Shape, items: &[Item]) -> bool
+    ensures { result ≡ list_all (is_built_item (size_of shape)) items.now }
+{
+    items.iter().all(|item| is_built_item(shape, item))
+}
+
+fn first_program(programs: &[Items<Step>]) -> &[Step]
+    ensures { result.now ≡ first_program programs.now }
 {
     match programs.first() {
-        Some(program) => started_name(program.list()),
+        Some(program) => program.list(),
         None => &[],
     }
 }
 
-/// Whether each program saves files in a dataset of that name.
-fn save_in(name: &[u8], programs: &[Items<Step>]) -> bool
-    ensures { result ≡ list_all (is_save_program name.now) programs.now }
-{
-    programs
-        .iter()
-        .all(|program| is_save_program(name, program.list()))
-}
-
-/// Whether all ranks save their files in one dataset.
-fn is_save_run(programs: &[Items<Step>]) -> bool
-    ensures { result ≡ is_save_run programs.now }
-{
-    let name = first_name(programs);
-    is_name(name) && save_in(name, programs)
-}
-
-/// Whether each rank reads back files that its saving program routed.
-fn is_restart_run(saved: &[Items<Step>], programs: &[Items<Step>]) -> bool
-    ensures { result ≡ is_restart_run saved.now programs.now }
-{
-    if saved.len() != programs.len() {
-        return false;
-    }
-    for i in 0..programs.len() {
-        if !is_restart_program(saved[i].list(), programs[i].list()) {
-            return false;
-        }
-    }
-    true
-}
-
-/// Whether each item is a run that saves, or one that reads back what the last one before it saved.
-fn are_built(shape: Shape, items: &[Item]) -> bool
-    ensures { result ≡ are_built (size_of shape) [] items.now }
-{
-    let mut saved: &[Items<Step>] = &[];
-    for item in items {
-        let Item::Run { run } = item else {
-            return false;
-        };
-        if !is_plain_run(shape, run) {
-            return false;
-        }
-        let programs = run.programs.list();
-        if is_save_run(programs) {
-            saved = programs;
-        } else if !is_restart_run(saved, programs) {
-            return false;
-        }
-    }
-    true
-}
-
-/// The name of the dataset that the item starts, and no bytes where it starts none.
-fn started(item: &Item) -> &[u8]
-    ensures { result.now ≡ started item.now }
+/// The steps of rank 0 in the item.
+fn first_steps_of(item: &Item) -> &[Step]
+    ensures { result.now ≡ first_steps_of item.now }
 {
     match item {
-        Item::Run { run } => first_name(run.programs.list()),
+        Item::Run { run } => first_program(run.programs.list()),
         _ => &[],
     }
 }
 
-/// Whether the item starts a dataset.
-#[tactic(auto, unfolding(crate::specs::Forms::starts))]
-fn starts(item: &Item) -> bool
-    ensures { result ≡ starts item.now }
+/// Whether each dataset is started where fewer were kept before than there is room for.
+fn have_room(room: usize, items: &[Item]) -> bool
+    ensures { result ≡ has_room room (first_steps items.now) }
 {
-    started(item).len() != 0
-}
-
-/// Whether the names of the datasets that the items start are the same.
-fn are_alike(item: &Item, other: &Item) -> bool
-    ensures { result ≡ bytes_eq (started item.now) (started other.now) }
-{
-    started(item) == started(other)
-}
-
-/// Whether the name of one of the items is that of the item.
-fn have_alike(items: &[Item], item: &Item) -> bool
-    ensures { result ≡ list_any (λ other. bytes_eq (started other) (started item.now)) items.now }
-{
-    items.iter().any(|other| are_alike(other, item))
-}
-
-/// Whether one of the items starts a dataset of the same name.
-fn starts_again(items: &[Item], item: &Item) -> bool
-    ensures { result ≡ starts_again items.now item.now }
-{
-    starts(item) && have_alike(items, item)
-}
-
-/// Whether no two of the items start datasets of one name.
-fn are_distinct(items: &[Item]) -> bool
-    ensures { result ≡ are_distinct items.now }
-{
-    for i in 0..items.len() {
-        if starts_again(&items[i + 1..], &items[i]) {
+    let mut left = room;
+    for item in items {
+        let steps = first_steps_of(item);
+        if !has_room(left, steps) {
             return false;
         }
+        left = room_behind(left, steps);
     }
     true
 }
 
-/// How many of the items start a dataset.
-fn count_starts(items: &[Item]) -> usize
-    ensures { result ≡ count_by starts items.now }
+/// Whether too few datasets are started for one whose number the flush divides.
+fn are_unflushed(flush: usize, items: &[Item]) -> bool
+    ensures { result ≡ is_unflushed flush (first_steps items.now) }
 {
-    let mut count = 0;
-    for item in items {
-        if starts(item) {
-            count += 1;
-        }
+    if flush == 0 {
+        return true;
     }
-    count
+    let mut left = flush;
+    for item in items {
+        left = left.saturating_sub(count_starts(first_steps_of(item)));
+    }
+    left > 0
 }
 
-/// Whether the script is of the form that is built (`docs/SCRIPT.md`): with the scheme `single` and all settings but the cache
-/// as by default, plain runs of which each saves files in a dataset of a new name, at most as many as the cache holds, or reads
-/// back files that the same ranks routed in the last run that saved.
+/// Whether the script is of the form that is built (`docs/SCRIPT.md`): its datasets are kept without copies, in cache and
+/// nowhere else, and there is room for them; its items are runs that end by themselves.
 pub fn is_built(script: &Script) -> bool
     ensures { result ≡ is_built (job_of script.now) }
 {
     let items = script.items.list();
-    is_plain_config(script)
-        && count_starts(items) <= script.config.cache as usize
-        && are_distinct(items)
-        && are_built(script.shape, items)
+    is_single(script.config.scheme)
+        && are_built_items(script.shape, items)
+        && have_room(script.config.cache as usize, items)
+        && are_unflushed(script.config.flush as usize, items)
 }

@@ -4,7 +4,6 @@
 mod built;
 mod devices;
 mod input;
-mod names;
 mod output;
 mod playing;
 mod refusal;

@@ -5,23 +5,20 @@ ghost use Rattle.node_device.specs.Rack.{states_of};
 ghost use Rattle.ckpt_model.specs.Machine.{Machine};
 ghost use Rattle.script_reader.specs.Values.{size_of};
 ghost use Rattle.script_reader.specs.declared.script.Item.TheVariants as item;
-ghost use Rattle.site_core.specs.Causes.{IsCalm};
 ghost use Rattle.site_core.specs.Follows.{Keeps, HasStopped, IsActor, IsSameRun, Stands, Follows};
 ghost use Rattle.site_core.specs.Shown.{setup_of as setup_of_core};
-ghost use Rattle.scr_replay.specs.Forms.{is_plain_run};
+ghost use Rattle.std.specs.List.{list_all};
+ghost use Rattle.scr_replay.specs.Forms.{has_turn, is_built_run};
 ghost use Rattle.scr_replay.specs.Items.{setup_of, legal_item, legal_items, CutsShort};
-ghost use Rattle.scr_replay.specs.Runs.{RunCause, RunEnds, IsReplayed, IsPlayed, GivesUp, IsCalmPast, HasFault, HasFull, status_of_error};
+ghost use Rattle.scr_replay.specs.Runs.{RunEnds, IsReplayed, IsPlayed};
 ghost use Rattle.scr_replay.specs.Statuses.{IsBuilt};
 
 use crate::telling::{Untold, tell};
 use node_device::{Bay, Device, Ran};
 use scr_base::{Actor, Config, Copies, Items, Memory, Shape, Sink, Step};
-use script_reader::{Item, RunItem, Script};
+use script_reader::{Item, RunItem, Script, TurnLine};
 use site_core::{Closed, Site, SiteError, Unbegun, stop_devices};
 use std::alloc::Global;
-
-/// More rounds than any run of a script takes.
-const ROUNDS: u32 = 1_000_000;
 
 /// Runs the runs of a script over a bay, one after the other, and prints their histories.
 pub fn play_all<D: Device, K: Sink>(
@@ -34,10 +31,8 @@ pub fn play_all<D: Device, K: Sink>(
     ensures done { result.status ≡ 0 → IsReplayed D.state (setup_of script.now) (legal_items script.now.items) (states_of D.state bay) (states_of D.state result.bay) (K.held sink.old) (K.held sink.new) }
     ensures cut { 3 < result.status → CutsShort D.state (setup_of script.now) script.now.items (states_of D.state bay) (K.held sink.old) (K.held sink.new) }
     ensures quiet { result.status ≡ 0 → K.fault_count sink.new ≡ K.fault_count sink.old }
-    ensures known { (result.status ≡ 0) ⊎ ((3 < result.status) × (result.status ≤ 7)) }
+    ensures known { (result.status ≡ 0) ⊎ ((3 < result.status) × (result.status ≤ 5)) }
     ensures sink_fault { result.status ≡ 4 → Rose (K.fault_count sink.old) (K.fault_count sink.new) }
-    ensures device_fault { result.status ≡ 6 → HasFault (states_of D.state bay) (states_of D.state result.bay) }
-    ensures device_full { result.status ≡ 7 → HasFull (states_of D.state bay) (states_of D.state result.bay) }
 {
     let mut bay = bay;
     for item in script.items.list() {
@@ -61,9 +56,8 @@ fn play<D: Device, K: Sink>(
     run: &RunItem,
     sink: &mut K,
 ) -> Result<Bay<D>, Ran<D>>
-    requires { is_plain_run (size_of shape) run.now ≡ true }
+    requires { is_built_run (size_of shape) run.now ≡ true }
     ensures replayed { IfOk result (λ after. IsReplayed D.state (record { shape = shape; config = config }) (legal_item (item.Run run.now) ∷ []) (states_of D.state bay) (states_of D.state after) (K.held sink.old) (K.held sink.new)) }
-    ensures calm { IfOk result (λ after. IsCalmPast (states_of D.state bay) (states_of D.state after)) }
     ensures quiet { OnOk result (K.fault_count sink.new ≡ K.fault_count sink.old) }
     ensures ends { IfErr result (λ ran. RunEnds D.state (record { shape = shape; config = config }) (legal_item (item.Run run.now)) (states_of D.state bay) (states_of D.state ran.bay) (K.held sink.old) (K.held sink.new) (K.fault_count sink.old) (K.fault_count sink.new) ran.status) }
 {
@@ -86,36 +80,21 @@ fn run_through<D: Device>(
     config: Config,
     run: &RunItem,
 ) -> Result<Closed<D>, Ran<D>>
-    requires { is_plain_run (size_of shape) run.now ≡ true }
+    requires { is_built_run (size_of shape) run.now ≡ true }
     ensures played { IfOk result (λ closed. IsPlayed D.state (record { shape = shape; config = config }) (legal_item (item.Run run.now) ∷ []) (states_of D.state bay) (states_of D.state closed.bay) closed.history.events) }
-    ensures calm { IfOk result (λ closed. IsCalmPast (states_of D.state bay) (states_of D.state closed.bay)) }
-    ensures ends { IfErr result (λ ran. GivesUp (states_of D.state bay) (states_of D.state ran.bay) ran.status) }
+    ensures ends { IfErr result (λ ran. ran.status ≡ 5) }
 {
     let mut site = match begin_run(alloc, bay, shape, config, run) {
         Ok(site) => site,
         Err(Unbegun { bay }) => return Err(Ran { status: 5, bay }),
     };
-    let over = run_out(&mut site, shape.nodes * shape.ranks);
+    let over = run_out(&mut site, shape.nodes * shape.ranks, run.turns.list());
     let Closed { history, mut bay } = site.close();
-    if let Err(error) = over {
-        return Err(Ran {
-            status: status_of(error),
-            bay,
-        });
+    if let Err(SiteError::Memory) = over {
+        return Err(Ran { status: 5, bay });
     }
     stop_devices(&mut bay, 0);
     Ok(Closed { history, bay })
-}
-
-/// The status with which the call ends where a site can't go on.
-fn status_of(error: SiteError) -> u8
-    ensures { result ≡ status_of_error error }
-{
-    match error {
-        SiteError::Memory => 5,
-        SiteError::Fault { .. } => 6,
-        SiteError::Full { .. } => 7,
-    }
 }
 
 /// A copy of a rank's steps.
@@ -148,7 +127,7 @@ fn begin_run<D: Device>(
     config: Config,
     run: &RunItem,
 ) -> Result<Site<D>, Unbegun<D>>
-    requires { is_plain_run (size_of shape) run.now ≡ true }
+    requires { is_built_run (size_of shape) run.now ≡ true }
     ensures bay { IfOk result (λ site. site.bay ≡ bay) }
     ensures refused { IfErr result (λ left. left.bay ≡ bay) }
     ensures setup { IfOk result (λ site. setup_of_core site.core ≡ record { shape = shape; config = config }) }
@@ -166,16 +145,52 @@ fn begin_run<D: Device>(
     Site::begin(alloc, bay, shape, config, places, programs)
 }
 
-/// Lets the actors take their turns, round after round, until the run has stopped.
-fn run_out<D: Device>(site: &mut Site<D>, ranks: u8) -> Result<(), SiteError>
+/// Runs a site until its run has stopped: first the actors of the turn lines take their turns, and then all go round.
+fn run_out<D: Device>(site: &mut Site<D>, ranks: u8, turns: &[TurnLine]) -> Result<(), SiteError>
+    requires ranks { ranks ≤ length site.old.core.ranks }
+    requires actors { list_all (has_turn ranks) turns.now ≡ true }
+    ensures kept { OnOk result (Keeps D.state site.old site.new) }
+    ensures same { IsSameRun site.old site.new }
+    ensures stopped { OnOk result (HasStopped site.new) }
+{
+    take_lines(site, ranks, turns)?;
+    go_on(site, ranks)
+}
+
+/// Lets the actors of the turn lines take their turns, line after line.
+fn take_lines<D: Device>(site: &mut Site<D>, ranks: u8, turns: &[TurnLine]) -> Result<(), SiteError>
+    requires ranks { ranks ≤ length site.old.core.ranks }
+    requires actors { list_all (has_turn ranks) turns.now ≡ true }
+    ensures kept { OnOk result (Keeps D.state site.old site.new) }
+    ensures same { IsSameRun site.old site.new }
+{
+    for turn in turns {
+        take_turns(site, ranks, *turn)?;
+    }
+    Ok(())
+}
+
+/// Lets an actor take the turns of a turn line, moved or not.
+fn take_turns<D: Device>(site: &mut Site<D>, ranks: u8, turn: TurnLine) -> Result<(), SiteError>
+    requires ranks { ranks ≤ length site.old.core.ranks }
+    requires actor { has_turn ranks turn ≡ true }
+    ensures kept { OnOk result (Keeps D.state site.old site.new) }
+    ensures same { IsSameRun site.old site.new }
+{
+    for _turn in 0..turn.times {
+        take_turn(site, turn.actor)?;
+    }
+    Ok(())
+}
+
+/// Lets the actors go round until the run has stopped. No run takes so many rounds.
+fn go_on<D: Device>(site: &mut Site<D>, ranks: u8) -> Result<(), SiteError>
     requires { ranks ≤ length site.old.core.ranks }
     ensures kept { OnOk result (Keeps D.state site.old site.new) }
     ensures same { IsSameRun site.old site.new }
     ensures stopped { OnOk result (HasStopped site.new) }
-    ensures calm { OnOk result (IsCalm (states_of D.state site.old.bay) (states_of D.state site.new.bay)) }
-    ensures cause { IfErr result (RunCause (states_of D.state site.old.bay) (states_of D.state site.new.bay)) }
 {
-    for _round in 0..ROUNDS {
+    for _round in 0..u64::MAX {
         go_round(site, ranks)?;
         if site.stopped() {
             return Ok(());
@@ -189,8 +204,6 @@ fn go_round<D: Device>(site: &mut Site<D>, ranks: u8) -> Result<(), SiteError>
     requires { ranks ≤ length site.old.core.ranks }
     ensures kept { OnOk result (Keeps D.state site.old site.new) }
     ensures same { IsSameRun site.old site.new }
-    ensures calm { OnOk result (IsCalm (states_of D.state site.old.bay) (states_of D.state site.new.bay)) }
-    ensures cause { IfErr result (RunCause (states_of D.state site.old.bay) (states_of D.state site.new.bay)) }
 {
     take_turn(site, Actor::Recoverer)?;
     take_rank_turns(site, ranks)?;
@@ -204,8 +217,6 @@ fn take_rank_turns<D: Device>(site: &mut Site<D>, ranks: u8) -> Result<(), SiteE
     requires { ranks ≤ length site.old.core.ranks }
     ensures kept { OnOk result (Keeps D.state site.old site.new) }
     ensures same { IsSameRun site.old site.new }
-    ensures calm { OnOk result (IsCalm (states_of D.state site.old.bay) (states_of D.state site.new.bay)) }
-    ensures cause { IfErr result (RunCause (states_of D.state site.old.bay) (states_of D.state site.new.bay)) }
 {
     for rank in 0..ranks {
         take_turn(site, Actor::Rank { rank })?;
@@ -218,8 +229,6 @@ fn take_turn<D: Device>(site: &mut Site<D>, actor: Actor) -> Result<(), SiteErro
     requires { IsActor (length site.old.core.ranks) actor }
     ensures kept { OnOk result (Keeps D.state site.old site.new) }
     ensures same { IsSameRun site.old site.new }
-    ensures calm { OnOk result (IsCalm (states_of D.state site.old.bay) (states_of D.state site.new.bay)) }
-    ensures cause { IfErr result (RunCause (states_of D.state site.old.bay) (states_of D.state site.new.bay)) }
 {
     match site.turn(actor) {
         Ok(_) => Ok(()),

@@ -2,7 +2,6 @@
 ghost use Rattle.std.specs.Prelude.{◌≡◌, ◌<◌, ◌≤◌, ◌⊎◌, IfOk, IfErr, OnOk, IfSome, map, string_bytes};
 ghost use Rattle.node_device.specs.Rack.{states_of};
 ghost use Rattle.scr_replay.specs.Inputs.{IsSpent};
-ghost use Rattle.scr_replay.specs.Runs.{HasFault, HasFull};
 ghost use Rattle.scr_replay.specs.Statuses.{seen, EndsByUsage, EndsByRefusal, EndsBySourceFault, EndsBySinkFault, IsDone, IsEarlyFront, IsCut, EndsEarly, ComesToRun, Prints, Refuses, UnreadCause, IsUnread, Spells, IsBuilt, IsBuiltFrom};
 
 use crate::built::is_built;
@@ -31,9 +30,7 @@ pub fn replay<S: Source, K: Sink, D: Device, C: Clock>(
     ensures sink_fault { EndsBySinkFault (seen (S.left source.old) (S.fault_count source.old) (K.held sink.old) (K.fault_count sink.old)) (seen (S.left source.new) (S.fault_count source.new) (K.held sink.new) (K.fault_count sink.new)) result.status }
     ensures done { result.status ≡ 0 → IsDone D.state (seen (S.left source.old) (S.fault_count source.old) (K.held sink.old) (K.fault_count sink.old)) (seen (S.left source.new) (S.fault_count source.new) (K.held sink.new) (K.fault_count sink.new)) (states_of D.state bay) (states_of D.state result.bay) }
     ensures front { 3 < result.status → IsEarlyFront (map (λ word. string_bytes word) words.now.items) (seen (S.left source.old) (S.fault_count source.old) (K.held sink.old) (K.fault_count sink.old)) (seen (S.left source.new) (S.fault_count source.new) (K.held sink.new) (K.fault_count sink.new)) ⊎ IsCut D.state (seen (S.left source.old) (S.fault_count source.old) (K.held sink.old) (K.fault_count sink.old)) (seen (S.left source.new) (S.fault_count source.new) (K.held sink.new) (K.fault_count sink.new)) (states_of D.state bay) }
-    ensures device_fault { result.status ≡ 6 → HasFault (states_of D.state bay) (states_of D.state result.bay) }
-    ensures device_full { result.status ≡ 7 → HasFull (states_of D.state bay) (states_of D.state result.bay) }
-    ensures known { result.status ≤ 7 }
+    ensures known { result.status ≤ 5 }
 {
     let _ = clock;
     match script_or_status(alloc, words, source, sink) {

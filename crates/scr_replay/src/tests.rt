@@ -21,6 +21,49 @@ const NODES: &str =
 const TWO_SAVES: &str =
     "site 1 1 0\nset scheme single\nset cache 2\nrun 0\nrank 0 start a ckpt\nrank 0 route f\nrank 0 write f 0 text abc\nrank 0 complete valid\nstop 0 end\nrun 0\nrank 0 start b ckpt\nrank 0 route g\nrank 0 write g 0 text xyz\nrank 0 complete valid\nstop 0 end\nrun 0\nrank 0 have\nrank 0 restart\nrank 0 read g 0 3\nrank 0 restarted valid\nstop 0 end\n";
 
+const RESTART_FIRST: &str = "site 1 1 0\nset scheme single\nrun 0\nrank 0 restart\nstop 0 end\n";
+
+// One rank whose calls are refused in turn.
+const REFUSED_CALLS: &str =
+    "site 1 1 0\nset scheme single\nset cache 4\nrun 0\nrank 0 start .a ckpt\nrank 0 start a ckpt\nrank 0 route f\nrank 0 write g 0 text x\nrank 0 complete valid\nrank 0 start a ckpt\nrank 0 complete valid\nstop 0 end\n";
+
+// A 17th file on line 21.
+const ROUTES: &str =
+    "site 1 1 0\nset scheme single\nrun 0\nrank 0 start a ckpt\nrank 0 route f1\nrank 0 route f2\nrank 0 route f3\nrank 0 route f4\nrank 0 route f5\nrank 0 route f6\nrank 0 route f7\nrank 0 route f8\nrank 0 route f9\nrank 0 route f10\nrank 0 route f11\nrank 0 route f12\nrank 0 route f13\nrank 0 route f14\nrank 0 route f15\nrank 0 route f16\nrank 0 route f17\nstop 0 end\n";
+
+// Three ranks of which the last starts another dataset first.
+const MISMATCH: &str =
+    "site 3 1 0\nset scheme single\nrun 0,1,2\nrank 0-1 start a ckpt\nrank 2 start b ckpt\nrank all start c ckpt\nstop 0 end\n";
+
+const MISMATCH_TOLD: &str =
+    "run 1 at 0,1,2\nfound |\ncall 0 1 start a ckpt\ncall 1 1 start a ckpt\ncall 2 1 start b ckpt\ndecided start mismatch 2\nreply 1 1 mismatch 2\nreply 2 1 mismatch 2\nreply 0 1 mismatch 2\ncall 1 2 start c ckpt\ncall 2 2 start c ckpt\ncall 0 2 start c ckpt\ndecided start ok 1.1\nreply 2 2 ok 1.1\nreply 0 2 ok 1.1\nreply 1 2 ok 1.1\ncall 2 3 end\ncall 0 3 end\ncall 1 3 end\nstop ended\n";
+
+// Two ranks whose first turns come in an order of the script's own: rank 1 in vain before the recovery, the whole recovery,
+// rank 1 up to its first call, rank 0 up to its second one, and the encoder in vain.
+const TURNS: &str =
+    "site 2 1 0\nset scheme single\nrun 0,1\nrank all start a ckpt\nrank all complete valid\nturn rank 1 1\nturn recoverer 100\nturn rank 1 2\nturn rank 0 4\nturn encoder 5\nstop 0 end\n";
+
+const TURNS_TOLD: &str =
+    "run 1 at 0,1\nfound |\ncall 1 1 start a ckpt\ncall 0 1 start a ckpt\ndecided start ok 1.1\nreply 0 1 ok 1.1\ncall 0 2 complete valid\nreply 1 1 ok 1.1\ncall 1 2 complete valid\nsealing 1.1\nsettled 1.1\ndecided complete kept\nreply 1 2 kept\nreply 0 2 kept\ncall 1 3 end\ncall 0 3 end\nstop ended\n";
+
+// Two ranks, one of which doesn't call its part valid.
+const NOT_KEPT: &str =
+    "site 2 1 0\nset scheme single\nrun 0,1\nrank all start a ckpt\nrank 0 complete valid\nrank 1 complete invalid\nstop 0 end\n";
+
+const NOT_KEPT_TOLD: &str =
+    "run 1 at 0,1\nfound |\ncall 0 1 start a ckpt\ncall 1 1 start a ckpt\ndecided start ok 1.1\nreply 1 1 ok 1.1\nreply 0 1 ok 1.1\ncall 1 2 complete invalid\ncall 0 2 complete valid\ndecided complete notkept\nreply 1 2 notkept\nreply 0 2 notkept\ncall 1 3 end\ncall 0 3 end\nstop ended\n";
+
+// The first script where each device has room for two bytes, but the prefix.
+const FULL_TOLD: &str =
+    "run 1 at 0\nfound |\ncall 0 1 start a ckpt\ndecided start ok 1.1\nreply 0 1 ok 1.1\nlocal 0 2 route f = ok d.1.1.0.f.0.0\nlocal 0 3 write f 0 text abc = full 0 0 2\ncall 0 4 complete valid\ndecided complete full 0 0 2\nreply 0 4 full 0 0 2\ncall 0 5 end\nstop ended\nrun 2 at 0\nfound |\ncall 0 1 have\ndecided have none\nreply 0 1 none\ncall 0 2 restart\ndecided restart phase idle\nreply 0 2 phase idle\nlocal 0 3 read f 0 3 = phase idle\ncall 0 4 restarted valid\ndecided restarted phase idle\nreply 0 4 phase idle\ncall 0 5 end\nstop ended\n";
+
+// A run that stops within its turn lines, and another one.
+const ENDED_BY_TURNS: &str =
+    "site 1 1 0\nset scheme single\nrun 0\nturn recoverer 100\nturn rank 0 100\nturn flusher 100\nstop 0 end\nrun 0\nstop 0 end\n";
+
+const ENDED_BY_TURNS_TOLD: &str =
+    "run 1 at 0\nfound |\ncall 0 1 end\nstop ended\nrun 2 at 0\nfound |\ncall 0 1 end\nstop ended\n";
+
 // The member record that the first run leaves on node 0: both gates open, the body's length, and the tree
 // DSET{FLAGS{ckpt} ID{1} NAME{a} RUN{1}} FILES{00{00{f{3}}}} FORMAT{1} NODE{0} SCHEME{SHARES{0} SIZE{8} TYPE{single}}
 // SHAPE{NODES{1} RANKS{1}}.
@@ -135,7 +178,24 @@ fn ends_with_its_status(rt: HostRuntime) -> Result<(), Fail> {
 }
 
 #[test]
-fn refuses_what_is_almost_built(rt: HostRuntime) -> Result<(), Fail> {
+fn refuses_what_is_no_script(rt: HostRuntime) -> Result<(), Fail> {
+    let alloc = rt.alloc();
+    let table = [
+        ("", EMPTY),
+        ("run 0\n", EMPTY),
+        ("site 1 1 0\n", "refused line 2 reason 12\n"),
+        (ROUTES, "refused line 21 reason 9\n"),
+    ];
+    for (text, want) in table {
+        let (status, sink) = told(alloc, text)?;
+        assert_eq!(rt; status, 2, "at {want}");
+        assert_eq!(rt; sink.bytes(), want.as_bytes(), "at {want}");
+    }
+    Ok(())
+}
+
+#[test]
+fn refuses_what_is_not_built(rt: HostRuntime) -> Result<(), Fail> {
     let alloc = rt.alloc();
     let table = [
         (
@@ -157,51 +217,155 @@ fn refuses_what_is_almost_built(rt: HostRuntime) -> Result<(), Fail> {
             "read f 00 3",
             "refused line 12 reason 2\n",
         ),
+        (NODES, "set scheme single\n", "", UNBUILT),
         (NODES, "scheme single", "scheme partner", UNBUILT),
+        (NODES, "scheme single", "scheme rs\nset shares 1", UNBUILT),
+        (SCRIPT, "stop 0 end\n", "stop 0 end\nlose 0\n", UNBUILT),
+        (SCRIPT, "stop 0 end\n", "stop 0 end\nscavenge\n", UNBUILT),
+        (SCRIPT, "stop 0 end\n", "stop 0 end\nindex list\n", UNBUILT),
+        (SCRIPT, "stop 0 end\n", "stop 0 end\nhalt clear\n", UNBUILT),
+        (SCRIPT, "restarted valid", "restarted invalid", UNBUILT),
+        (
+            NODES,
+            "rank all restarted valid",
+            "rank 0-2 restarted valid\nrank 3 restarted invalid",
+            UNBUILT,
+        ),
+        (SCRIPT, "rank 0 have", "rank 0 start b ckpt", UNBUILT),
+        (
+            SCRIPT,
+            "rank 0 start",
+            "rank 0 complete valid\nrank 0 start",
+            UNBUILT,
+        ),
+        (TWO_SAVES, "cache 2", "cache 1", UNBUILT),
+        (SCRIPT, "a ckpt", "a output", UNBUILT),
+        (SCRIPT, "a ckpt", "a both", UNBUILT),
+        (
+            NODES,
+            "rank all start a ckpt",
+            "rank 0-2 start a ckpt\nrank 3 start a both",
+            UNBUILT,
+        ),
         (SCRIPT, "single\n", "single\nset flush 1\n", UNBUILT),
-        (SCRIPT, "single\n", "single\nset flush 0\n", UNBUILT),
-        (SCRIPT, "single\n", "single\nset size 4\n", UNBUILT),
-        (SCRIPT, "single\n", "single\nset interval 2\n", UNBUILT),
+        (TWO_SAVES, "cache 2", "cache 2\nset flush 2", UNBUILT),
         (NODES, "run 0,1", "run 1,0", UNBUILT),
         (NODES, "run 0,1", "run 0,2", UNBUILT),
         (SCRIPT, "stop 0 end", "stop 1 end", UNBUILT),
         (SCRIPT, "stop 0 end", "stop 0 after 3", UNBUILT),
         (SCRIPT, "stop 0 end", "stop 0 on stop ended", UNBUILT),
-        (SCRIPT, "stop 0 end", "turn encoder 1\nstop 0 end", UNBUILT),
-        (SCRIPT, "stop 0 end\n", "stop 0 end\nlose 0\n", UNBUILT),
-        (SCRIPT, "stop 0 end\n", "stop 0 end\nhalt clear\n", UNBUILT),
-        (SCRIPT, "a ckpt", "a both", UNBUILT),
-        (SCRIPT, "a ckpt", ".a ckpt", UNBUILT),
-        (SCRIPT, "complete valid", "complete invalid", UNBUILT),
-        (SCRIPT, "restarted valid", "restarted invalid", UNBUILT),
         (SCRIPT, "rank 0 have", "rank 0 need\nrank 0 have", UNBUILT),
-        (SCRIPT, "rank 0 route f\n", "", UNBUILT),
-        (SCRIPT, "route f", "route .f", UNBUILT),
+        (SCRIPT, "rank 0 have", "rank 0 exit\nrank 0 have", UNBUILT),
         (
-            SCRIPT,
-            "route f",
-            "write f 0 text x\nrank 0 route f",
+            NODES,
+            "rank all have",
+            "rank 3 finalize\nrank all have",
             UNBUILT,
         ),
-        (SCRIPT, "write f 0", "write g 0", UNBUILT),
-        (SCRIPT, "read f 0 3", "read g 0 3", UNBUILT),
-        (
-            SCRIPT,
-            "rank 0 complete",
-            "rank 0 start a ckpt\nrank 0 complete",
-            UNBUILT,
-        ),
-        (NODES, "rank all complete", "rank 0-2 complete", UNBUILT),
-        (NODES, "rank all route", "rank 0-2 route", UNBUILT),
-        (TWO_SAVES, "cache 2", "cache 1", UNBUILT),
-        (TWO_SAVES, "start b", "start a", UNBUILT),
-        (TWO_SAVES, "read g", "read f", UNBUILT),
     ];
     for (script, old, new, want) in table {
         let text = changed(alloc, script, old, new)?;
         let (status, sink) = told(alloc, text.as_str())?;
         assert_eq!(rt; status, 2, "at {new}");
         assert_eq!(rt; sink.bytes(), want.as_bytes(), "at {new}");
+    }
+    Ok(())
+}
+
+#[test]
+fn runs_what_is_built(rt: HostRuntime) -> Result<(), Fail> {
+    let alloc = rt.alloc();
+    let table = [
+        (SCRIPT, "single\n", "single\nset flush 0\n", "settled 1.1\n"),
+        (SCRIPT, "single\n", "single\nset flush 2\n", "settled 1.1\n"),
+        (
+            TWO_SAVES,
+            "cache 2",
+            "cache 2\nset flush 3",
+            "settled 2.2\n",
+        ),
+        (SCRIPT, "single\n", "single\nset size 4\n", "settled 1.1\n"),
+        (
+            SCRIPT,
+            "single\n",
+            "single\nset interval 2\n",
+            "settled 1.1\n",
+        ),
+        (
+            SCRIPT,
+            "rank 0 route",
+            "rank 0 start b ckpt\nrank 0 route",
+            "decided start phase output\n",
+        ),
+        (
+            NODES,
+            "rank all start a",
+            "rank 1-3 complete valid\nrank 0 have\nrank all start a",
+            "decided have mismatch 1\n",
+        ),
+        (
+            SCRIPT,
+            "rank 0 start",
+            "turn evictor 3\nstop 0 end\nrun 0\nrank 0 start",
+            "settled 1.2\n",
+        ),
+    ];
+    for (script, old, new, want) in table {
+        let text = changed(alloc, script, old, new)?;
+        let (status, sink) = told(alloc, text.as_str())?;
+        assert_eq!(rt; status, 0, "at {new}");
+        let Ok(printed) = str::from_utf8(sink.bytes()) else {
+            return Ok(assert!(rt; false, "no text"));
+        };
+        assert!(rt; printed.contains(want), "at {new}");
+        assert!(rt; printed.ends_with("end\nstop ended\n"));
+    }
+    Ok(())
+}
+
+#[test]
+fn answers_calls_that_are_refused(rt: HostRuntime) -> Result<(), Fail> {
+    let alloc = rt.alloc();
+    let table = [
+        (
+            RESTART_FIRST,
+            "decided restart phase idle\nreply 0 1 phase idle\n",
+        ),
+        (REFUSED_CALLS, "decided start badname\nreply 0 1 badname\n"),
+        (REFUSED_CALLS, "local 0 4 write g 0 text x = nofile\n"),
+        (
+            REFUSED_CALLS,
+            "decided start taken 1.1\nreply 0 6 taken 1.1\n",
+        ),
+        (
+            REFUSED_CALLS,
+            "decided complete phase idle\nreply 0 7 phase idle\n",
+        ),
+    ];
+    for (text, want) in table {
+        let (status, sink) = told(alloc, text)?;
+        assert_eq!(rt; status, 0, "at {want}");
+        let Ok(printed) = str::from_utf8(sink.bytes()) else {
+            return Ok(assert!(rt; false, "no text"));
+        };
+        assert!(rt; printed.contains(want), "at {want}");
+    }
+    Ok(())
+}
+
+#[test]
+fn tells_the_whole_history(rt: HostRuntime) -> Result<(), Fail> {
+    let alloc = rt.alloc();
+    let table = [
+        (MISMATCH, MISMATCH_TOLD),
+        (TURNS, TURNS_TOLD),
+        (ENDED_BY_TURNS, ENDED_BY_TURNS_TOLD),
+        (NOT_KEPT, NOT_KEPT_TOLD),
+    ];
+    for (text, want) in table {
+        let (status, sink) = told(alloc, text)?;
+        assert_eq!(rt; status, 0);
+        assert_eq!(rt; str::from_utf8(sink.bytes()), Ok(want));
     }
     Ok(())
 }
@@ -276,13 +440,65 @@ fn reads_back_what_was_written(rt: HostRuntime) -> Result<(), Fail> {
 }
 
 #[test]
-fn stops_at_a_full_device_and_at_a_failing_sink(rt: HostRuntime) -> Result<(), Fail> {
+fn tells_a_full_device_and_ends_at_a_failing_sink(rt: HostRuntime) -> Result<(), Fail> {
     let alloc = rt.alloc();
-    for (capacity, sink_fault, status) in [(2, 0, 7), (1000, 2, 4)] {
-        let source = source(alloc, SCRIPT, &[])?;
-        let sink = MemSink::new(alloc, [sink_fault].to_vec(alloc)?);
-        let (ended, _) = replayed(alloc, "run", source, sink, capacity)?;
-        assert_eq!(rt; ended, status);
+    let full = source(alloc, SCRIPT, &[])?;
+    let sink = MemSink::new(alloc, Vec::new(alloc));
+    let (ended, sink) = replayed(alloc, "run", full, sink, 2)?;
+    assert_eq!(rt; ended, 0);
+    assert_eq!(rt; str::from_utf8(sink.bytes()), Ok(FULL_TOLD));
+    let text = source(alloc, SCRIPT, &[])?;
+    let failing = MemSink::new(alloc, [2].to_vec(alloc)?);
+    let (ended, _) = replayed(alloc, "run", text, failing, 1000)?;
+    assert_eq!(rt; ended, 4);
+    Ok(())
+}
+
+// A bay of which one device fails in one call.
+fn failing_bay(alloc: Global, failing: u8, call: u64) -> Result<Bay<MemDevice>, Memory> {
+    let mut nodes = Vec::with_capacity(alloc, 32)?;
+    for place in 0..32u8 {
+        let calls = if place == failing { call } else { 0 };
+        nodes.push(MemDevice::new(alloc, 10_000, [calls].to_vec(alloc)?)?)?;
+    }
+    let calls = if failing == 32 { call } else { 0 };
+    let prefix = MemDevice::new(alloc, 1000, [calls].to_vec(alloc)?)?;
+    Ok(Bay::new(nodes, prefix))
+}
+
+// Whatever call of a device fails, the call ends well, each line that tells of a device names that one and its first fault,
+// and what the next run finds is what it offers.
+#[test]
+fn tells_each_fault_of_each_device(rt: HostRuntime) -> Result<(), Fail> {
+    let alloc = rt.alloc();
+    let words = vec![in alloc; String::from_str(alloc, "run")?]?;
+    for (failing, name) in [(0u8, " device 0 1\n"), (32, " device 32 1\n")] {
+        let mut faults = 0;
+        for call in 1..60u64 {
+            let mut source = source(alloc, SCRIPT, &[])?;
+            let mut sink = MemSink::new(alloc, Vec::new(alloc));
+            let mut clock = TickClock::new();
+            let Ok(bay) = failing_bay(alloc, failing, call) else {
+                return Ok(assert!(rt; false, "no bay"));
+            };
+            let ran = replay(alloc, &words, &mut source, &mut sink, bay, &mut clock);
+            assert_eq!(rt; ran.status, 0, "at call {call} of {failing}");
+            let Ok(printed) = str::from_utf8(sink.bytes()) else {
+                return Ok(assert!(rt; false, "no text"));
+            };
+            if printed.contains(name) {
+                faults += 1;
+            }
+            let others = printed.replace(alloc, name, "\n")?;
+            assert!(rt; !others.contains("device"), "at call {call} of {failing}");
+            let found = printed.contains("found 1.1:- |\n");
+            assert_eq!(rt;
+                printed.contains("decided have 1.1 a\n"),
+                found && printed.contains("call 0 1 have\n"),
+                "at call {call} of {failing}"
+            );
+        }
+        assert!(rt; faults > 5, "of {failing}");
     }
     Ok(())
 }

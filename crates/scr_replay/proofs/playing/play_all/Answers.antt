@@ -5,34 +5,25 @@ use Rattle.script_reader.specs.Values.{size_of}
 use Rattle.script_reader.specs.declared.script.Item.TheVariants.{Run}
 use Rattle.scr_replay.specs.Items.{setup_of, legal_item, legal_items}
 use Rattle.scr_replay.specs.Runs.{IsReplayed}
-use Rattle.scr_replay.proofs.Causes.{calm_past, past_then, fault_later, full_later}
 use Rattle.scr_replay.proofs.Cuts.{run_cuts}
-use Rattle.scr_replay.proofs.Plain.{IsPlain, plain_item, no_run, more_items}
+use Rattle.scr_replay.proofs.Forms.{IsBuiltItem, built_item, no_run, more_items}
 use Rattle.scr_replay.proofs.Replayed.{none_replayed, replayed_then}
 use Rattle.scr_replay.proofs.playing.play_all.Goals as goal
 
 pub loop-item-init : goal.loop-item-init
 loop-item-init g c =
     let states = states_of g.D.Device.state c.args.bay in
-    record { replayed = none_replayed _ _ states _; calm = calm_past states states (λ place. refl); quiet = refl }
+    record { replayed = none_replayed _ _ states _; quiet = refl }
 
 pub unreachable-requires : goal.unreachable-requires
 unreachable-requires g c =
     no_run (size_of c.args.script.now.shape) c.item-item.result c.in_default.not-Run
-    (plain_item c.args.script.now c.list-item-items.result.now c.loop-item.item-index c.item-item.result c.list-item-items.ensures c.requires c.loop-item-test.true c.item-item.is)
+    (built_item c.args.script.now c.list-item-items.result.now c.loop-item.item-index c.item-item.result c.list-item-items.ensures c.requires c.loop-item-test.true c.item-item.is)
 
 pub play-requires : goal.play-requires
 play-requires g c =
-    subst (IsPlain (size_of c.args.script.now.shape)) c.in-Run.is
-    (plain_item c.args.script.now c.list-item-items.result.now c.loop-item.item-index c.item-item.result c.list-item-items.ensures c.requires c.loop-item-test.true c.item-item.is)
-
-pub returns-in-Err-clause-device_fault : goal.returns-in-Err-clause-device_fault
-returns-in-Err-clause-device_fault g c six =
-    fault_later _ (states_of g.D.Device.state c.loop-item.bay) _ c.loop-item.invariant.calm (c.in-Err.ensures.ends.device_fault six)
-
-pub returns-in-Err-clause-device_full : goal.returns-in-Err-clause-device_full
-returns-in-Err-clause-device_full g c seven =
-    full_later _ (states_of g.D.Device.state c.loop-item.bay) _ c.loop-item.invariant.calm (c.in-Err.ensures.ends.device_full seven)
+    subst (IsBuiltItem (size_of c.args.script.now.shape)) c.in-Run.is
+    (built_item c.args.script.now c.list-item-items.result.now c.loop-item.item-index c.item-item.result c.list-item-items.ensures c.requires c.loop-item-test.true c.item-item.is)
 
 pub loop-item-preserved : goal.loop-item-preserved
 loop-item-preserved g c =
@@ -46,7 +37,6 @@ loop-item-preserved g c =
           (sym (more_items c.list-item-items.result.now script.items c.loop-item.item-index c.item-item.result (Run c.in-Run.run') c.list-item-items.ensures c.loop-item-test.true c.item-item.is c.in-Run.is))
           (replayed_then state (setup_of script) before (legal_item (Run c.in-Run.run') ∷ []) (states_of state c.args.bay) (states_of state c.loop-item.bay) (states_of state c.in-Ok.after)
           (held c.args.sink.now) (held c.loop-item.sink) (held c.play.new.sink) c.loop-item.invariant.replayed c.in-Ok.ensures.replayed);
-      calm = past_then (states_of state c.args.bay) (states_of state c.loop-item.bay) (states_of state c.in-Ok.after) c.loop-item.invariant.calm c.in-Ok.ensures.calm;
       quiet = c.in-Ok.ensures.quiet ∙ c.loop-item.invariant.quiet;
     }
 

@@ -1,14 +1,13 @@
 use Rattle.std.proofs.Common.{◌≡◌, take}
 use Rattle.node_device.specs.Rack.{states_of}
 use Rattle.scr_replay.specs.Items.{setup_of, legal_items}
-use Rattle.scr_replay.specs.Runs.{IsReplayed, IsCalmPast}
+use Rattle.scr_replay.specs.Runs.{IsReplayed}
 use Rattle.scr_replay.proofs.playing.play_all.Given as goal
 
--- the items so far were replayed, and no call failed
+-- the items so far were replayed
 abbrev pub invariant-loop-item : goal.invariant-loop-item
 invariant-loop-item g l =
     record {
       replayed : IsReplayed g.D.Device.state (setup_of l.script) (legal_items (take l.item-index l.script.items)) (states_of g.D.Device.state l.fn.bay) (states_of g.D.Device.state l.bay) (g.K.Sink.held l.fn.sink) (g.K.Sink.held l.sink);
-      calm : IsCalmPast (states_of g.D.Device.state l.fn.bay) (states_of g.D.Device.state l.bay);
       quiet : g.K.Sink.fault_count l.sink ≡ g.K.Sink.fault_count l.fn.sink;
     }

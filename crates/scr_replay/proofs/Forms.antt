@@ -1,0 +1,84 @@
+-- What a script that is built says of its items.
+use Rattle.std.proofs.Common.{◌≡◌, ℕ, zero, suc, ◌<◌, ◌≤◌, ◌+◌, ◌++◌, take, ap, ◌∙◌, ◌&&◌, ◌==◌, Bool, true, false, List, [], ◌∷◌, length, get_or, refl, sym, subst, arith}
+use Rattle.std.specs.List.{list_all}
+use Rattle.std.proofs.lemmas.List.{take_more, map-append}
+use Rattle.std.proofs.lemmas.Bool.Decides.{nat_tests}
+use Rattle.scr_base.specs.declared.actor.Actor.{Actor}
+use Rattle.scr_base.specs.declared.actor.Actor.TheVariants as actor
+use Rattle.scr_base.specs.declared.content.Step.{Step}
+use Rattle.site_core.specs.Follows.{IsActor}
+use Rattle.script_reader.specs.declared.script.Item.{Item}
+use Rattle.script_reader.specs.declared.script.Item.TheVariants.{Run, Lose, Scavenge, Admin}
+use Rattle.script_reader.specs.declared.script.RunItem.{RunItem}
+use Rattle.script_reader.specs.declared.script.Script.{Script}
+use Rattle.script_reader.specs.Values.{Size, size_of, ranks_of}
+use Rattle.script_reader.specs.Grammar.{Job, job_of}
+use Rattle.scr_replay.specs.Items.{legal_item, legal_items}
+use Rattle.scr_replay.specs.Statuses.{IsBuilt}
+use Rattle.scr_replay.specs.Forms.{is_end, ends_by_itself, has_actor, has_turn, is_in_order, is_of_site, are_built_steps, is_built_run, is_built_item, is_single, first_steps, has_room, is_unflushed, is_built}
+
+pub both : (a b : Bool) → (a && b) ≡ true → (a ≡ true) × (b ≡ true)
+both true b h = (refl, h)
+both false b h = cc
+
+-- what holds of all holds of each
+pub all_get : {X : Type 0} (p : X → Bool) (xs : List X) (i : ℕ) (d : X) → list_all p xs ≡ true → i < length xs → p (get_or xs i d) ≡ true
+all_get p [] i d h within = absurd (omega arith)
+all_get p (x ∷ xs) zero d h within = (both (p x) (list_all p xs) h).0
+all_get p (x ∷ xs) (suc i) d h within = all_get p xs i d (both (p x) (list_all p xs) h).1 (omega arith)
+
+-- a run that is built ends by itself
+pub built_end : (site : Size) (run : RunItem) → is_built_run site run ≡ true → is_end run.stop.place ≡ true
+built_end site run h =
+    let front = (both (is_in_order site run.places && is_of_site site run && ends_by_itself run.stop) (list_all are_built_steps run.programs) h).0 in
+    let ends = (both (is_in_order site run.places && is_of_site site run) (ends_by_itself run.stop) front).1 in
+    (both (run.stop.pick == 0) (is_end run.stop.place) ends).1
+
+-- an actor of a site of so many ranks is one of a site of more
+pub is_actor : (ranks n : ℕ) (a : Actor) → has_actor ranks a ≡ true → ranks ≤ n → IsActor n a
+is_actor ranks n (actor.Rank rank) h more = grind (arith, nat_tests)
+is_actor ranks n actor.Recoverer h more = tt
+is_actor ranks n actor.Encoder h more = tt
+is_actor ranks n actor.Flusher h more = tt
+is_actor ranks n actor.Evictor h more = tt
+
+-- the item is a run that is built
+abbrev pub IsBuiltItem : Size → Item → Type 0
+IsBuiltItem site (Run run) = is_built_run site run ≡ true
+IsBuiltItem site _ = ⊥
+
+false_is_not : false ≡ true → ⊥
+false_is_not e = cc
+
+built_run : (site : Size) (x : Item) → is_built_item site x ≡ true → IsBuiltItem site x
+built_run site (Run run) h = h
+built_run site (Lose node) h = false_is_not h
+built_run site (Scavenge pick budget) h = false_is_not h
+built_run site (Admin command) h = false_is_not h
+
+-- its items are built
+pub items_built : (job : Job) → is_built job ≡ true → list_all (is_built_item job.site) job.items ≡ true
+items_built job h =
+    let front = (both (is_single job.scheme && list_all (is_built_item job.site) job.items && has_room job.cache (first_steps job.items)) (is_unflushed job.flush (first_steps job.items)) h).0 in
+    let items = (both (is_single job.scheme && list_all (is_built_item job.site) job.items) (has_room job.cache (first_steps job.items)) front).0 in
+    (both (is_single job.scheme) (list_all (is_built_item job.site) job.items) items).1
+
+-- an item of a script that is built is a run that is built
+pub built_item : (script : Script) (items : List Item) (i : ℕ) (x : Item) → items ≡ script.items → IsBuilt script → i < length items → x ≡ get_or items i x → IsBuiltItem (size_of script.shape) x
+built_item script items i x same built within read =
+    let all = subst (λ (xs : List Item). list_all (is_built_item (size_of script.shape)) xs ≡ true) (sym same) (items_built (job_of script) built) in
+    built_run (size_of script.shape) x (ap (is_built_item (size_of script.shape)) read ∙ all_get (is_built_item (size_of script.shape)) items i x all within)
+
+-- what is no run isn't built
+pub no_run : (site : Size) (x : Item) → ((run : RunItem) → x ≡ Run run → ⊥) → IsBuiltItem site x → ⊥
+no_run site (Run run) other built = other run refl
+no_run site (Lose node) other built = built
+no_run site (Scavenge pick budget) other built = built
+no_run site (Admin command) other built = built
+
+-- one item more
+pub more_items : (items all : List Item) (i : ℕ) (x y : Item) → items ≡ all → i < length items → x ≡ get_or items i x → x ≡ y → legal_items (take (i + 1) all) ≡ legal_items (take i all) ++ legal_item y ∷ []
+more_items items all i x y same within read is =
+    ap legal_items (subst (λ (xs : List Item). take (i + 1) xs ≡ take i xs ++ y ∷ []) same
+    (take_more items i x within ∙ ap (λ (z : Item). take i items ++ z ∷ []) (sym read ∙ is)))
+    ∙ map-append legal_item (take i all) (y ∷ [])
