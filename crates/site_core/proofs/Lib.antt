@@ -42,3 +42,6 @@ pub mod Cuts
 pub mod Refusals
 pub mod Turns
 pub mod LocalRefusals
+pub mod Lengthened
+pub mod Appending
+pub mod Halting

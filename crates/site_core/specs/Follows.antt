@@ -29,6 +29,7 @@ use Rattle.site_core.specs.declared.core_state.Work.{Work}
 use Rattle.scr_base.specs.declared.answers.Refusal.TheVariants as refusal
 use Rattle.ckpt_model.specs.declared.event.StopCause.{StopCause}
 use Rattle.ckpt_model.specs.declared.event.StopCause.TheVariants as stops
+use Rattle.site_core.specs.declared.core_state.Stage.TheVariants.{Cut}
 use Rattle.site_core.specs.declared.turn.Turn.{Turn}
 use Rattle.site_core.specs.declared.turn.Turn.TheVariants as turn
 use Rattle.site_core.specs.Waiting.{is_over}
@@ -150,13 +151,28 @@ Stays turn.Moved old new = Unit {0}
 Stays (turn.NotYet why) old new = new ≡ old
 Stays turn.Ended old new = new ≡ old
 
--- the run is the same one
+-- a turn that moved is counted, and no other
+abbrev pub Counts : Turn → ℕ → ℕ → Type 0
+Counts turn.Moved old new = new ≡ old + 1
+Counts (turn.NotYet why) old new = new ≡ old
+Counts turn.Ended old new = new ≡ old
+
+-- a run that wasn't over was ended from outside, and no device was touched
+pub record IsHalted {D : Type 0} (old new : Site D) : Type 0 where
+  pub events : new.history.events ≡ old.history.events ++ event.Stop stops.Script ∷ []
+  pub core : new.core ≡ record old.core { stage = Cut }
+  pub programs : new.programs ≡ old.programs
+  pub bay : new.bay ≡ old.bay
+  pub moves : new.moves ≡ old.moves
+
+-- the run is the same one, and room for its end stays
 pub record IsSameRun {D : Type 0} (old new : Site D) : Type 0 where
   pub shape : new.core.shape ≡ old.core.shape
   pub config : new.core.config ≡ old.core.config
   pub places : new.core.places ≡ old.core.places
   pub programs : new.programs ≡ old.programs
   pub ranks : length new.core.ranks ≡ length old.core.ranks
+  pub room : 1 ≤ old.history.spare → 1 ≤ new.history.spare
 
 -- the actor is one of a site of so many ranks
 abbrev pub IsActor : ℕ → Actor → Type 0

@@ -10,3 +10,4 @@ pub mod Holds
 pub mod Calls
 pub mod Causes
 pub mod Follows
+pub mod Asking

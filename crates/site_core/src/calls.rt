@@ -10,6 +10,7 @@ ghost use Rattle.site_core.specs.Follows.{Keeps, TellsBy, IsOfRank, IsOfRound, I
 
 use crate::core_state::{Stage, Work};
 use crate::error::SiteError;
+use crate::events::push;
 use crate::site::Site;
 use crate::turn::{Turn, Why};
 use ckpt_model::Event;
@@ -98,7 +99,7 @@ impl<D: Device> Site<D> {
             return Err(SiteError::Memory);
         };
         let number = seat.number;
-        self.history.reserve(1)?;
+        self.history.reserve(2)?;
         let Some(answer) = self.core.ranks.take_reply(rank) else {
             return Err(SiteError::Memory);
         };
@@ -180,11 +181,14 @@ impl<D: Device> Site<D> {
         };
         let number = number_after(seat);
         let told = step.copy(self.alloc)?;
-        self.history.push(Event::Call {
-            rank,
-            number,
-            step: told,
-        })?;
+        push(
+            &mut self.history,
+            Event::Call {
+                rank,
+                number,
+                step: told,
+            },
+        )?;
         self.core.ranks.arrive(rank, step);
         Ok(Turn::Moved)
     }

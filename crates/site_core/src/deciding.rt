@@ -10,6 +10,7 @@ ghost use Rattle.site_core.specs.Follows.{Keeps, TellsBy, IsOfRound, IsSameRun, 
 use crate::calls::changes_left;
 use crate::core_state::{Stage, Work};
 use crate::error::SiteError;
+use crate::events::push;
 use crate::site::Site;
 use crate::turn::{Turn, Why};
 use ckpt_model::{Event, Kind, StopCause};
@@ -57,7 +58,7 @@ impl<D: Device> Site<D> {
         ensures still { IfOk result (λ turn. Stays turn self.old self.new) }
         ensures moved { IfOk result (λ turn. turn ≡ Turn.Moved) }
     {
-        self.history.reserve(1)?;
+        self.history.reserve(2)?;
         self.core.ranks.decide(self.alloc, &answer)?;
         self.history.push(Event::Decided { kind, answer })?;
         self.core.phase = phase;
@@ -128,7 +129,7 @@ impl<D: Device> Site<D> {
         };
         let manifest = self.core.fresh(self.alloc, which, &name, flags)?;
         let answer = Reply::Started { which };
-        self.history.reserve(1)?;
+        self.history.reserve(2)?;
         self.core.ranks.decide(self.alloc, &answer)?;
         self.history.push(Event::Decided {
             kind: Kind::Start,
@@ -259,9 +260,12 @@ impl<D: Device> Site<D> {
         if !self.core.all_ended() {
             return Err(SiteError::Memory);
         }
-        self.history.push(Event::Stop {
-            cause: StopCause::Ended,
-        })?;
+        push(
+            &mut self.history,
+            Event::Stop {
+                cause: StopCause::Ended,
+            },
+        )?;
         self.core.stage = Stage::Stopped;
         Ok(Turn::Moved)
     }

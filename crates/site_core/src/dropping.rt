@@ -130,7 +130,7 @@ impl<D: Device> Site<D> {
         ensures moved { IfOk result (λ turn. turn ≡ Turn.Moved) }
     {
         let answer = self.core.dropped_answer();
-        self.history.reserve(1)?;
+        self.history.reserve(2)?;
         self.core.ranks.decide(self.alloc, &answer)?;
         self.history.push(Event::Decided {
             kind: Kind::Complete,

@@ -218,7 +218,7 @@ impl<D: Device> Site<D> {
             return Err(SiteError::Memory);
         };
         let which = m.desc.which;
-        self.history.reserve(1)?;
+        self.history.reserve(2)?;
         self.core.kept.reserve()?;
         match put_gate(&mut self.bay, place, which, node, MemberGate::Sealed) {
             Ok(()) => {
@@ -328,7 +328,7 @@ impl<D: Device> Site<D> {
         if self.core.settled == u32::MAX {
             return Err(SiteError::Memory);
         }
-        self.history.reserve(1)?;
+        self.history.reserve(2)?;
         match sync_node(&mut self.bay, place) {
             Ok(()) => {
                 self.history.push(Event::Settled { which })?;

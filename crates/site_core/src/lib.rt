@@ -10,6 +10,7 @@ mod deciding;
 mod dropping;
 mod encode;
 mod error;
+mod events;
 mod file_calls;
 mod local;
 mod places;

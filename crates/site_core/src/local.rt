@@ -15,6 +15,7 @@ ghost use Rattle.site_core.specs.Follows.{Keeps, TellsBy, IsOfRank, IsSameRun, S
 
 use crate::core_state::Stage;
 use crate::error::{SiteError, Trouble};
+use crate::events::push;
 use crate::file_calls::{get_part, put_part};
 use crate::site::Site;
 use crate::turn::Turn;
@@ -77,12 +78,15 @@ impl<D: Device> Site<D> {
             return Err(SiteError::Memory);
         };
         let number = seat.number + 1;
-        self.history.push(Event::Local {
-            rank,
-            number,
-            step,
-            answer,
-        })?;
+        push(
+            &mut self.history,
+            Event::Local {
+                rank,
+                number,
+                step,
+                answer,
+            },
+        )?;
         self.core.ranks.step(rank);
         Ok(())
     }
@@ -180,7 +184,7 @@ impl<D: Device> Site<D> {
         let Ok(name) = Name::read(self.alloc, word.bytes()) else {
             return Err(SiteError::Memory);
         };
-        self.history.reserve(1)?;
+        self.history.reserve(2)?;
         match put_part(
             &mut self.bay,
             spot.place,
@@ -216,7 +220,7 @@ impl<D: Device> Site<D> {
             return Err(SiteError::Memory);
         };
         let bytes = content.bytes_for(self.alloc, rank)?;
-        self.history.reserve(1)?;
+        self.history.reserve(2)?;
         let end = end_of(at, &content, rank);
         let step = Step::Write {
             name: word,

@@ -1,4 +1,4 @@
-use scr_base::Step;
+use scr_base::{Memory, Step};
 use std::marker::Model;
 
 /// The steps of each rank.
@@ -17,7 +17,8 @@ impl Model for Programs {
 }
 
 impl Programs {
-    ghost use Rattle.std.specs.Prelude.{◌≡◌, [], map, option_copied, slice_get, unwrap_or};
+    ghost use Rattle.std.specs.Prelude.{◌≡◌, [], map, option_copied, slice_get, unwrap_or, length, ◌<◌, OnOk, OnErr};
+    ghost use Rattle.site_core.specs.Asking.{takes_steps, lengthened};
 
     pub fn of(ranks: Vec<Vec<Step>>) -> Programs
         ensures { result ≡ map (λ program. program.items) ranks.items }
@@ -33,5 +34,26 @@ impl Programs {
             Some(steps) => steps.get(place as usize),
             None => None,
         }
+    }
+
+    /// Whether the rank's program doesn't end with End.
+    pub fn takes_steps(&self, rank: u8) -> bool
+        ensures { result ≡ takes_steps self.now rank }
+    {
+        match self.ranks.get(rank as usize) {
+            Some(steps) => !matches!(steps.last(), Some(Step::End)),
+            None => true,
+        }
+    }
+
+    /// Appends a step to a rank's program.
+    pub fn ask(&mut self, rank: u8, step: Step) -> Result<(), Memory>
+        requires { rank < length self.old }
+        ensures asked { OnOk result (self.new ≡ lengthened self.old rank step) }
+        ensures refused { OnErr result (self.new ≡ self.old) }
+    {
+        let steps = &mut self.ranks[rank as usize];
+        steps.push(step)?;
+        Ok(())
     }
 }

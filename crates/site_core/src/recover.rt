@@ -14,6 +14,7 @@ ghost use Rattle.site_core.specs.Follows.{Keeps, TellsBy, IsOfWorker, IsSameRun,
 use crate::cache::Cache;
 use crate::core_state::Stage;
 use crate::error::SiteError;
+use crate::events::push;
 use crate::file_calls::{last_run, members_at, store_number};
 use crate::site::Site;
 use crate::turn::{Turn, Why};
@@ -99,9 +100,12 @@ impl<D: Device> Site<D> {
         ensures still { IfOk result (λ turn. Stays turn self.old self.new) }
         ensures moved { IfOk result (λ turn. turn ≡ Turn.Moved) }
     {
-        self.history.push(Event::Stop {
-            cause: StopCause::Runs,
-        })?;
+        push(
+            &mut self.history,
+            Event::Stop {
+                cause: StopCause::Runs,
+            },
+        )?;
         self.core.stage = Stage::Stopped;
         Ok(Turn::Moved)
     }
@@ -117,7 +121,7 @@ impl<D: Device> Site<D> {
         ensures moved { IfOk result (λ turn. turn ≡ Turn.Moved) }
     {
         let places = self.core.places.copy(self.alloc)?;
-        self.history.reserve(1)?;
+        self.history.reserve(2)?;
         match store_number(self.alloc, &mut self.bay, &mut self.core.storing) {
             Ok(over) => {
                 if !over {
@@ -147,7 +151,7 @@ impl<D: Device> Site<D> {
         let Some(place) = self.core.places.of_node(0) else {
             return Err(SiteError::Memory);
         };
-        self.history.reserve(1)?;
+        self.history.reserve(2)?;
         match members_at(self.alloc, &mut self.bay, place, self.core.shape) {
             Ok(members) => self.find(members),
             Err(trouble) => self.stop_by(trouble),
@@ -164,10 +168,13 @@ impl<D: Device> Site<D> {
         ensures bay { self.new.bay ≡ self.old.bay }
     {
         let kept = Cache::found(self.alloc, members)?;
-        self.history.push(Event::Found {
-            kept: kept.rows(self.alloc)?,
-            index: no_entries(self.alloc),
-        })?;
+        push(
+            &mut self.history,
+            Event::Found {
+                kept: kept.rows(self.alloc)?,
+                index: no_entries(self.alloc),
+            },
+        )?;
         self.core.find(kept);
         Ok(Turn::Moved)
     }
@@ -186,7 +193,7 @@ impl<D: Device> Site<D> {
             self.core.end_recovery();
             return Ok(Turn::Moved);
         };
-        self.history.push(Event::Mended { which })?;
+        push(&mut self.history, Event::Mended { which })?;
         self.core.kept.settle(which);
         self.core.end_recovery();
         Ok(Turn::Moved)

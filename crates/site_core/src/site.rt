@@ -1,10 +1,10 @@
 // A site, and how it is begun, taken turns with, and closed.
-ghost use Rattle.std.specs.Prelude.{◌≤◌, ℕ};
+ghost use Rattle.std.specs.Prelude.{◌≡◌, ◌≤◌, ◌<◌, ◌-◌, ◌^◌, ℕ, IfOk, OnErr};
 ghost use Rattle.node_device.specs.Rack.{states_of};
 ghost use Rattle.node_device.specs.Calls.{Crashes};
 ghost use Rattle.ckpt_model.specs.Machine.{Machine, Setup};
 ghost use Rattle.site_core.specs.Calls.{TellsAll};
-ghost use Rattle.site_core.specs.Follows.{Stands};
+ghost use Rattle.site_core.specs.Follows.{Stands, Counts};
 ghost use Rattle.site_core.specs.Holds.{HasRest};
 
 use crate::cache::Cache;
@@ -13,7 +13,7 @@ use crate::error::SiteError;
 use crate::programs::Programs;
 use crate::storing::Storing;
 use crate::turn::{Turn, Why};
-use ckpt_model::History;
+use ckpt_model::{Event, History, StopCause};
 use node_device::{Bay, Device};
 use round_core::Round;
 use scr_base::{Actor, Bytes, Config, Phase, Shape, Step};
@@ -27,6 +27,7 @@ pub struct Site<D> {
     pub(crate) programs: Programs,
     pub(crate) bay: Bay<D>,
     pub(crate) history: History,
+    pub(crate) moves: u64,
 }
 
 /// What is left where a site wasn't begun: the bay, as it was.
@@ -51,14 +52,27 @@ pub fn stop_devices<D: Device>(bay: &mut Bay<D>, pick: u8)
     bay.stop(pick);
 }
 
+/// The number of moves after a turn.
+fn moves_after(answer: &Result<Turn, SiteError>, moves: u64) -> u64
+    requires { moves < 2 ^ 64 - 1 }
+    ensures moved { IfOk answer.now (λ turn. Counts turn moves result) }
+    ensures refused { OnErr answer.now (result ≡ moves) }
+{
+    match answer {
+        Ok(Turn::Moved) => moves + 1,
+        _ => moves,
+    }
+}
+
 impl<D: Device> Site<D> {
-    ghost use Rattle.std.specs.Prelude.{◌≡◌, ◌≤◌, ◌*◌, ◌↔◌, ◌∷◌, [], List, map, length, true, IfOk, IfErr, IfOk, OnOk, OnErr};
+    ghost use Rattle.std.specs.Prelude.{◌≡◌, ◌⊎◌, ◌≤◌, ◌<◌, ◌*◌, ◌↔◌, ◌∷◌, [], List, map, length, true, IfOk, IfErr, IfOk, OnOk, OnErr};
     ghost use Rattle.scr_base.specs.Sets.{numbers_below};
     ghost use Rattle.node_device.specs.Rack.{states_of};
     ghost use Rattle.ckpt_model.specs.Machine.{Machine};
     ghost use Rattle.site_core.specs.Shown.{setup_of};
     ghost use Rattle.site_core.specs.Waiting.{turn_of, flusher_turn};
-    ghost use Rattle.site_core.specs.Follows.{Keeps, Follows, Stands, Ends, WasCut, HasStopped, TellsBy, IsOf, IsActor, IsSameRun, Stays};
+    ghost use Rattle.site_core.specs.Asking.{program_of, takes_steps, lengthened, IsWithinLimit};
+    ghost use Rattle.site_core.specs.Follows.{Keeps, Follows, Stands, Ends, WasCut, HasStopped, TellsBy, IsOf, IsActor, IsSameRun, IsHalted, Stays, Counts};
 
     /// Begins a run over a bay, which it leaves as it is. The bay comes back where there is no memory. The places are those of
     /// the nodes in their order, and each rank has a program.
@@ -75,6 +89,7 @@ impl<D: Device> Site<D> {
         ensures bay { IfOk result (λ site. site.bay ≡ bay) }
         ensures refused { IfErr result (λ left. left.bay ≡ bay) }
         ensures empty { IfOk result (λ site. site.history.events ≡ []) }
+        ensures moves { IfOk result (λ site. site.moves ≡ 0) }
         ensures room { IfOk result (λ site. 1 ≤ site.history.spare) }
         ensures setup { IfOk result (λ site. setup_of site.core ≡ record { shape = shape; config = config }) }
         ensures places { IfOk result (λ site. site.core.places ≡ places.items) }
@@ -95,11 +110,33 @@ impl<D: Device> Site<D> {
             programs: Programs::of(programs),
             bay,
             history,
+            moves: 0,
         })
     }
 
     /// Lets an actor take its turn: at most one change to one device, and at most one event.
     pub fn turn(&mut self, actor: Actor) -> Result<Turn, SiteError>
+        requires { IsActor (length self.old.core.ranks) actor }
+        ensures run { OnOk result (Keeps D.state self.old self.new) }
+        ensures told { OnOk result (TellsBy (IsOf actor) D.state self.old self.new) }
+        ensures refused { OnErr result (self.new.history.events ≡ self.old.history.events) }
+        ensures fixed { IsSameRun self.old self.new }
+        ensures still { IfOk result (λ turn. Stays turn self.old self.new) }
+        ensures waits { IfOk result (λ turn. turn ≡ turn_of self.old.core self.old.programs actor) }
+        ensures counts { IfOk result (λ turn. Counts turn self.old.moves self.new.moves) }
+        ensures uncounted { OnErr result (self.new.moves ≡ self.old.moves) }
+    {
+        let moves = self.moves;
+        if moves == u64::MAX {
+            return Err(SiteError::Memory);
+        }
+        let answer = self.take_turn(actor);
+        self.moves = moves_after(&answer, moves);
+        answer
+    }
+
+    /// The turn itself, which isn't counted.
+    fn take_turn(&mut self, actor: Actor) -> Result<Turn, SiteError>
         requires { IsActor (length self.old.core.ranks) actor }
         ensures run { OnOk result (Keeps D.state self.old self.new) }
         ensures told { OnOk result (TellsBy (IsOf actor) D.state self.old self.new) }
@@ -134,6 +171,54 @@ impl<D: Device> Site<D> {
         }
     }
 
+    /// Whether the rank's program doesn't end with End.
+    pub fn takes_steps(&self, rank: u8) -> bool
+        requires { rank < length self.now.programs }
+        ensures { result ≡ takes_steps self.now.programs rank }
+    {
+        self.programs.takes_steps(rank)
+    }
+
+    /// Appends a step to the rank's program; after want of memory all is as before.
+    pub fn ask(&mut self, rank: u8, step: Step) -> Result<(), SiteError>
+        requires rank { rank < length self.old.programs }
+        requires takes { takes_steps self.old.programs rank ≡ true }
+        requires fewer { length (program_of self.old.programs rank) < 4294967295 }
+        requires within { IsWithinLimit step }
+        ensures asked { OnOk result (self.new ≡ record self.old { programs = lengthened self.old.programs rank step }) }
+        ensures refused { OnErr result (self.new ≡ self.old) }
+        ensures run { Keeps D.state self.old self.new }
+    {
+        self.programs.ask(rank, step)?;
+        Ok(())
+    }
+
+    /// Ends the run from outside; where it is over, nothing changes. With room for one event in the history it takes no memory.
+    pub fn halt_now(&mut self)
+        ensures over { HasStopped self.old → self.new ≡ self.old }
+        ensures halted { 1 ≤ self.old.history.spare → (HasStopped self.old → ⊥) → IsHalted self.old self.new }
+        ensures sound { IsHalted self.old self.new ⊎ (self.new ≡ self.old) }
+        ensures run { Keeps D.state self.old self.new }
+    {
+        if self.stopped() {
+            return;
+        }
+        let event = Event::Stop {
+            cause: StopCause::Script,
+        };
+        let Ok(()) = self.history.push(event) else {
+            return;
+        };
+        self.core.stage = Stage::Cut;
+    }
+
+    /// How many turns moved.
+    pub fn moves(&self) -> u64
+        ensures { result ≡ self.now.moves }
+    {
+        self.moves
+    }
+
     /// The events so far.
     pub fn history(&self) -> &History
         ensures { result.now ≡ self.now.history }
@@ -161,6 +246,7 @@ impl<D: Device> Site<D> {
             programs: _,
             bay,
             history,
+            moves: _,
         } = self;
         Closed { history, bay }
     }

@@ -6,6 +6,7 @@ ghost use Rattle.site_core.specs.Follows.{IsSameRun};
 
 use crate::core_state::Stage;
 use crate::error::{SiteError, Trouble};
+use crate::events::push;
 use crate::site::Site;
 use crate::turn::Turn;
 use ckpt_model::{Event, StopCause};
@@ -35,7 +36,7 @@ impl<D: Device> Site<D> {
                 capacity,
             },
         };
-        self.history.push(Event::Stop { cause })?;
+        push(&mut self.history, Event::Stop { cause })?;
         self.core.stage = Stage::Cut;
         Ok(Turn::Moved)
     }

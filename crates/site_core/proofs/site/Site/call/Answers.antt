@@ -20,6 +20,6 @@ returns-clause-run g c = λ tells first f.
     let next = c.requires.next in
     let same : c.in-Some.seat.now ≡ next.seat = some_same c.in-Some.seat.now next.seat (c.in-Some.ensures ∙ next.is) in
     let number : c.number_after-number.result ≡ next_number next.seat = c.number_after-number.ensures ∙ ap next_number same in
-    let told = appended c.push.new.self.events s.history.events s.history.events (event.Call c.args.rank c.number_after-number.result c.in_ok-told.told) (event.Call c.args.rank (next_number next.seat) c.args.step) c.in_ok-push.ensures.events refl
+    let told = appended c.push.new.history.events s.history.events s.history.events (event.Call c.args.rank c.number_after-number.result c.in_ok-told.told) (event.Call c.args.rank (next_number next.seat) c.args.step) c.in_ok-push.ensures.events refl
     (ap (λ (n : ℕ). event.Call c.args.rank n c.in_ok-told.told) number ∙ ap (λ (x : Step). event.Call c.args.rank (next_number next.seat) x) c.in_ok-told.ensures) in
-    called_on first s.core s.programs (states_of g.D.Device.state s.bay) s.history.events c.push.new.self.events c.args.rank c.args.step c.arrive.new.self c.requires.stage next c.arrive.ensures told f
+    called_on first s.core s.programs (states_of g.D.Device.state s.bay) s.history.events c.push.new.history.events c.args.rank c.args.step c.arrive.new.self c.requires.stage next c.arrive.ensures told f

@@ -6,4 +6,4 @@ use Rattle.site_core.proofs.site.Site.end.Goals as goal
 pub returns-clause-run : goal.returns-clause-run
 returns-clause-run g c = λ tells first f.
     let s = c.args.self.now in
-    ended first s.core s.programs (states_of g.D.Device.state s.bay) s.history.events c.push.new.self.events c.requires.stage f c.requires.round.complete (sym c.if-not-all_ended.ensures) c.in_ok-push.ensures.events
+    ended first s.core s.programs (states_of g.D.Device.state s.bay) s.history.events c.push.new.history.events c.requires.stage f c.requires.round.complete (sym c.if-not-all_ended.ensures) c.in_ok-push.ensures.events

@@ -14,5 +14,5 @@ returns-clause-found g c = c.find.ensures ∙ ap (λ (k : List Cached). recovere
 pub returns-clause-events : goal.returns-clause-events
 returns-clause-events g c =
     let s = c.args.self.now in
-    appended c.push.new.self.events s.history.events s.history.events (event.Found c.in_ok-rows.field-0 c.no_entries.result) (event.Found (map row_of (map Rattle.site_core.specs.Looks.found_member (filter Rattle.site_core.specs.Looks.is_standing c.args.members.items))) []) c.in_ok-push.ensures.events refl
+    appended c.push.new.history.events s.history.events s.history.events (event.Found c.in_ok-rows.field-0 c.no_entries.result) (event.Found (map row_of (map Rattle.site_core.specs.Looks.found_member (filter Rattle.site_core.specs.Looks.is_standing c.args.members.items))) []) c.in_ok-push.ensures.events refl
     (ap (λ (r : List FoundRow). event.Found r c.no_entries.result) (c.in_ok-rows.ensures ∙ ap (map row_of) c.in_ok-kept.ensures) ∙ ap (λ (r : List EntryRow). event.Found (map row_of (map Rattle.site_core.specs.Looks.found_member (filter Rattle.site_core.specs.Looks.is_standing c.args.members.items))) r) c.no_entries.ensures)

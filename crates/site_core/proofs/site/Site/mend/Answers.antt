@@ -18,7 +18,7 @@ pub returns-clause-run : goal.returns-clause-run
 returns-clause-run g c = λ tells first f.
     let s = c.args.self.now in
     let states = states_of g.D.Device.state s.bay in
-    let events = c.push.new.self.events in
+    let events = c.push.new.history.events in
     let l = mended first s.core s.programs states s.history.events events c.in-Some.which c.requires (sym c.to_mend.ensures ∙ c.in-Some.is) c.in_ok-push.ensures.events f in
     let m = subst (λ (k : List Cached). Leads first (recovered (record s.core { kept = k })) s.programs states events) (sym c.settle.ensures) l in
     subst (λ (x : Core). Leads first x s.programs states events) (sym c.end_recovery-2.ensures) m

@@ -5,4 +5,4 @@ use Rattle.site_core.proofs.site.Site.run_out_of_numbers.Goals as goal
 pub returns-clause-run : goal.returns-clause-run
 returns-clause-run g c = λ tells first f.
     let s = c.args.self.now in
-    numbers_over first s.core s.programs (states_of g.D.Device.state s.bay) s.history.events c.push.new.self.events c.requires.stage (c.requires.last tells) c.in_ok-push.ensures.events f
+    numbers_over first s.core s.programs (states_of g.D.Device.state s.bay) s.history.events c.push.new.history.events c.requires.stage (c.requires.last tells) c.in_ok-push.ensures.events f
