@@ -474,6 +474,7 @@ fn tells_each_fault_of_each_device(rt: HostRuntime) -> Result<(), Fail> {
     let words = vec![in alloc; String::from_str(alloc, "run")?]?;
     for (failing, name) in [(0u8, " device 0 1\n"), (32, " device 32 1\n")] {
         let mut faults = 0;
+        let mut last = 0;
         for call in 1..60u64 {
             let mut source = source(alloc, SCRIPT, &[])?;
             let mut sink = MemSink::new(alloc, Vec::new(alloc));
@@ -488,6 +489,7 @@ fn tells_each_fault_of_each_device(rt: HostRuntime) -> Result<(), Fail> {
             };
             if printed.contains(name) {
                 faults += 1;
+                last = call;
             }
             let others = printed.replace(alloc, name, "\n")?;
             assert!(rt; !others.contains("device"), "at call {call} of {failing}");
@@ -498,7 +500,7 @@ fn tells_each_fault_of_each_device(rt: HostRuntime) -> Result<(), Fail> {
                 "at call {call} of {failing}"
             );
         }
-        assert!(rt; faults > 5, "of {failing}");
+        assert!(rt; faults > 5 && last == faults && last < 59, "of {failing}");
     }
     Ok(())
 }
