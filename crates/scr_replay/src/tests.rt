@@ -473,7 +473,7 @@ fn tells_each_fault_of_each_device(rt: HostRuntime) -> Result<(), Fail> {
     let alloc = rt.alloc();
     let words = vec![in alloc; String::from_str(alloc, "run")?]?;
     for (failing, name) in [(0u8, " device 0 1\n"), (32, " device 32 1\n")] {
-        let mut faults = 0;
+        let mut faults: u64 = 0;
         let mut last = 0;
         for call in 1..60u64 {
             let mut source = source(alloc, SCRIPT, &[])?;
@@ -488,7 +488,7 @@ fn tells_each_fault_of_each_device(rt: HostRuntime) -> Result<(), Fail> {
                 return Ok(assert!(rt; false, "no text"));
             };
             if printed.contains(name) {
-                faults += 1;
+                faults = faults.saturating_add(1);
                 last = call;
             }
             let others = printed.replace(alloc, name, "\n")?;
