@@ -5,7 +5,11 @@ use crate::input::{Input, LONGEST_TEXT, ReadError, read_input};
 use crate::output::put_all;
 use crate::replay::replay;
 use node_device::{Bay, MemDevice};
-use scr_base::{MemSink, MemSource, Memory, Sink, SinkFailed, Source, TickClock};
+use scr_base::{
+    Actor, MemSink, MemSource, Memory, Shape, Sink, SinkFailed, Source, Step, TickClock,
+};
+use script_reader::read_script;
+use site_core::{Site, Turn};
 use std::alloc::Global;
 use std::test::Fail;
 
@@ -502,6 +506,38 @@ fn tells_each_fault_of_each_device(rt: HostRuntime) -> Result<(), Fail> {
         }
         assert!(rt; faults > 5 && last == faults && last < 59, "of {failing}");
     }
+    Ok(())
+}
+
+// A run whose program grows while it goes on: it takes steps up to its End, and is ended from outside.
+#[test]
+fn takes_steps_until_it_is_ended(rt: HostRuntime) -> Result<(), Fail> {
+    let alloc = rt.alloc();
+    let Ok(script) = read_script(alloc, SAVE.as_bytes()) else {
+        return Ok(assert!(rt; false, "not read"));
+    };
+    let Ok(bay) = bay(alloc, 10_000) else {
+        return Ok(assert!(rt; false, "no bay"));
+    };
+    let Some(shape) = Shape::new(1, 1, 0) else {
+        return Ok(assert!(rt; false, "no shape"));
+    };
+    let places = vec![in alloc; 0u8]?;
+    let mut programs = Vec::new(alloc);
+    programs.push(Vec::new(alloc))?;
+    let Ok(mut site) = Site::begin(alloc, bay, shape, script.config, places, programs) else {
+        return Ok(assert!(rt; false, "not begun"));
+    };
+    assert!(rt; site.takes_steps(0));
+    assert!(rt; site.ask(0, Step::End).is_ok());
+    assert!(rt; !site.takes_steps(0));
+    assert!(rt; matches!(site.turn(Actor::Recoverer), Ok(Turn::Moved)));
+    assert_eq!(rt; site.moves(), 1);
+    site.halt_now();
+    assert!(rt; site.stopped());
+    assert!(rt; matches!(site.turn(Actor::Recoverer), Ok(Turn::Ended)));
+    assert_eq!(rt; site.moves(), 1);
+    assert_eq!(rt; site.history().events().len(), 1);
     Ok(())
 }
 
