@@ -19,7 +19,7 @@ use Rattle.gated_record.specs.declared.pair.PairValue.{PairValue}
 use Rattle.gated_record.proofs.Plans.{open_within}
 use Rattle.gated_record.proofs.Copies.{in_its_copy, by_one}
 use Rattle.gated_record.proofs.PairWay.{copies_by_leaves}
-use Rattle.gated_record.proofs.PairSteps.{unchanged_pair, is_copy_name, may_step, steps_ok, steps_err}
+use Rattle.gated_record.proofs.PairSteps.{unchanged_pair, unchanged_alike, is_copy_name, may_step, steps_ok, steps_err}
 
 -- the version that is next belongs in the other copy
 next_differs : (v w : ℕ) → w ≡ next_version v → v % 2 ≢ w % 2
@@ -182,6 +182,7 @@ first_call stem want d e changes (Ok over) after late sound finds few steps same
   stands = λ value may. steps.stands value (begun stem value want d changes sound finds may);
   fewer = λ is. let le = steps.fewer is in subst (λ (x : Option (List Change)). left x < 2 ^ 64) (sym same) (omega (arith, le, few));
   refused = tt;
+  alike = tt;
   only = steps.only;
   rest = steps.rest;
   cause = steps.cause;
@@ -197,6 +198,7 @@ first_call stem want d e changes (Err fault) after late sound finds few steps sa
   stands = λ value may. tt;
   fewer = tt;
   refused = none;
+  alike = steps.alike;
   only = steps.only;
   rest = tt;
   cause = steps.cause;
@@ -262,6 +264,7 @@ unbegun X stem want d e None fault none same answer cause = record {
   stands = λ value may. tt;
   fewer = tt;
   refused = refl;
+  alike = unchanged_alike d e same;
   only = unchanged_pair stem d e same;
   rest = tt;
   cause = by_cause fault cause;

@@ -15,7 +15,7 @@ use Rattle.gated_record.specs.PairNext.{version_after, following, IsNextStage, G
 use Rattle.gated_record.specs.declared.pair.PairValue.{PairValue}
 use Rattle.gated_record.proofs.Copies.{by_none}
 use Rattle.gated_record.proofs.PairWay.{leaves_by_copies, shut_no_value, below_either, shut_either, standing_either}
-use Rattle.gated_record.proofs.PairSteps.{answers, step_goes, stands_after, come_either, unchanged_pair}
+use Rattle.gated_record.proofs.PairSteps.{answers, step_goes, stands_after, come_either, unchanged_pair, unchanged_alike}
 use Rattle.gated_record.proofs.PairBegins.{after_calls}
 
 -- what stands now is what every stop leaves
@@ -136,6 +136,7 @@ stepped stem payload want c d e result before after sound same faults body fits 
       over = here.over;
       fewer = here.fewer;
       refused = here.refused;
+      alike = here.alike;
       only = here.only;
       rest = here.rest;
       cause = here.cause;
@@ -175,6 +176,7 @@ unstepped X stem payload c d stage fault sound of_pair same answer cause = recor
   over = tt;
   fewer = tt;
   refused = refl;
+  alike = unchanged_alike c d same;
   only = unchanged_pair stem c d same;
   rest = tt;
   cause = by_cause fault cause;

@@ -5,8 +5,8 @@ use Rattle.std.proofs.lemmas.List.Elements.{All-tail}
 use Rattle.scr_base.specs.declared.change.Change.{Change}
 use Rattle.scr_base.specs.declared.change.Change.TheVariants.{Open, Close, Write, Sync, Remove}
 use Rattle.scr_base.specs.Stages.{left, next_of, passed, is_over}
-use Rattle.node_device.specs.File.{File, MayLeave, IsAtRest}
-use Rattle.node_device.specs.DeviceState.{DeviceState, used_of, IsUnchanged, IsSound, IsDeviceName, ChangesOnly}
+use Rattle.node_device.specs.File.{File, MayLeave, IsAtRest, IsKept}
+use Rattle.node_device.specs.DeviceState.{DeviceState, used_of, IsUnchanged, IsSound, IsDeviceName, ChangesOnly, ReadsAlike}
 use Rattle.node_device.specs.Calls.{Syncs}
 use Rattle.node_device.specs.Outcomes.{rest_leaves}
 use Rattle.node_device.specs.Answers.{HasDeviceCause, SyncAnswers, WriteAnswers, Passes}
@@ -63,6 +63,17 @@ unchanged_pair stem d e same = record {
   tells = ap (λ (s : DeviceState). s.tells) same;
   capacity = ap (λ (s : DeviceState). s.capacity) same;
   others = λ q n0 n1. subst (λ (f : File). IsNoWorse (d.file q) f) (sym (ap (λ (s : DeviceState). s.file q) same)) (same_worse (d.file q));
+}
+
+same_kept : (f : File) → IsKept f f
+same_kept f = record { len = refl; now = refl; fluid = λ is. is; greatest = omega arith }
+
+pub unchanged_alike : (d e : DeviceState) → IsUnchanged d e → ReadsAlike d e
+unchanged_alike d e same = record {
+  tells = ap (λ (s : DeviceState). s.tells) same;
+  capacity = ap (λ (s : DeviceState). s.capacity) same;
+  names = ap (λ (s : DeviceState). s.names) same;
+  files = λ q. subst (λ (f : File). IsKept (d.file q) f) (sym (ap (λ (s : DeviceState). s.file q) same)) (same_kept (d.file q));
 }
 
 synced_pair : {T : Type 0} (stem : List ℕ) (d e : DeviceState) (result : Result T DevError) → Syncs result d e → ChangesPair stem d e
@@ -180,6 +191,19 @@ module _ (stem : List ℕ) (want : PairValue) (d e : DeviceState) (q : List ℕ)
       by (Close name gate) is turns = rest_beside name is.0 turns.only
       by (Write name) is writes = rest_beside name is writes.only
       by Sync is syncs = syncs.at_rest q
+      by (Remove name) is removes = absurd is
+
+-- what reads give is the same after a step that was refused
+module _ (stem : List ℕ) (want : PairValue) (d e : DeviceState) (fault : DevError) where
+  pub refused_alike : (changes : List Change) → All (IsChangeOf stem) changes → StepMade {T = Unit {0}} (Some changes) (pair_body want) (Err fault) d e → ReadsAlike d e
+  refused_alike [] all made = let is = made.1 in absurd (cc is)
+  refused_alike (change ∷ later) all made = by change (all 0 Sync (omega arith)) made
+    where
+      by : (c : Change) → IsChangeOf stem c → StepMade {T = Unit {0}} (Some (c ∷ later)) (pair_body want) (Err fault) d e → ReadsAlike d e
+      by (Open name gate) is turns = turns.refused
+      by (Close name gate) is turns = turns.refused
+      by (Write name) is writes = writes.refused
+      by Sync is syncs = syncs.alike
       by (Remove name) is removes = absurd is
 
 module _ (stem : List ℕ) (old : Option PairValue) (want : PairValue) (d : DeviceState) where
@@ -331,6 +355,7 @@ module _ (stem : List ℕ) (want : PairValue) (above : 1 ≤ want.version) (fits
         stands = λ value way is tells. stands_after value e changes (went value way).stage (ap is_over (sym after_is) ∙ sym over_is ∙ is) (known.1.tells ∙ tells);
         fewer = λ is. subst (λ (x : Option (List Change)). left x < left (Some changes)) (sym after_is) (fewer_left changes (ap is_over (sym after_is) ∙ sym over_is ∙ is));
         refused = tt;
+        alike = tt;
         only = known.1;
         rest = λ q n0 n1 at_rest. rests stem want d e q n0 n1 at_rest changes all made;
         cause = known.2;
@@ -352,6 +377,7 @@ module _ (stem : List ℕ) (want : PairValue) (above : 1 ≤ want.version) (fits
         stands = λ value way. tt;
         fewer = tt;
         refused = same;
+        alike = refused_alike stem want d e fault changes all made;
         only = known.1;
         rest = tt;
         cause = cause_err fault known.2;

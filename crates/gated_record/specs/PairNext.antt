@@ -3,7 +3,7 @@ use Rattle.std.specs.Prelude.{◌≡◌, ◌≢◌, ◌<◌, ◌^◌, ℕ, Bool,
 use Rattle.scr_base.specs.declared.change.Change.{Change}
 use Rattle.scr_base.specs.Stages.{left, is_over}
 use Rattle.node_device.specs.File.{IsAtRest}
-use Rattle.node_device.specs.DeviceState.{DeviceState}
+use Rattle.node_device.specs.DeviceState.{DeviceState, ReadsAlike}
 use Rattle.node_device.specs.Answers.{HasDeviceCause}
 use Rattle.node_device.specs.declared.device.DevError.{DevError}
 use Rattle.gated_record.specs.Frames.{ChangesPair}
@@ -43,6 +43,7 @@ pub record StepsNext (stem payload : List ℕ) (result : Result Bool DevError) (
   pub over : IfOk result (λ over. over ≡ is_over after)
   pub fewer : IfOk result (λ over. over ≡ false → left after < left before)
   pub refused : OnErr result (after ≡ before)
+  pub alike : OnErr result (ReadsAlike old new)
   pub only : ChangesPair stem old new
   pub rest : OnOk result ((q : List ℕ) → q ≢ copy_name stem 0 → q ≢ copy_name stem 1 → IsAtRest (old.file q) → IsAtRest (new.file q))
   pub cause : HasDeviceCause old new result

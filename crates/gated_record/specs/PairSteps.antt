@@ -4,7 +4,7 @@ use Rattle.scr_base.specs.declared.change.Change.{Change}
 use Rattle.scr_base.specs.declared.change.Change.TheVariants.{Open, Write, Sync}
 use Rattle.scr_base.specs.Stages.{left, next_of, passed, is_over}
 use Rattle.node_device.specs.File.{IsAtRest, bytes_of}
-use Rattle.node_device.specs.DeviceState.{DeviceState, IsUnchanged, used_of}
+use Rattle.node_device.specs.DeviceState.{DeviceState, IsUnchanged, ReadsAlike, used_of}
 use Rattle.node_device.specs.Answers.{HasDeviceCause, Passes}
 use Rattle.node_device.specs.declared.device.DevError.{DevError}
 use Rattle.node_device.specs.declared.device.DevError.TheVariants.{Failed, Full, Memory}
@@ -95,6 +95,7 @@ pub record StepsPair (stem : List ℕ) (want : PairValue) (result : Result Bool 
   pub stands : (value : Option PairValue) → IsPairStage stem value want old before → IfOk result (λ over. over ≡ true → old.tells ≡ true → PairStands stem want new)
   pub fewer : IfOk result (λ over. over ≡ false → left after < left before)
   pub refused : OnErr result (after ≡ before)
+  pub alike : OnErr result (ReadsAlike old new)
   pub only : ChangesPair stem old new
   pub rest : OnOk result ((q : List ℕ) → q ≢ copy_name stem 0 → q ≢ copy_name stem 1 → IsAtRest (old.file q) → IsAtRest (new.file q))
   pub cause : HasDeviceCause old new result

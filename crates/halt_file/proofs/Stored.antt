@@ -57,6 +57,7 @@ stores want payload result before after d e fits is sound steps =
       over = step.over;
       fewer = step.fewer;
       refused = step.refused;
+      alike = step.alike;
       only = step.only;
       rest = step.rest;
       cause = step.cause;
