@@ -1,0 +1,4 @@
+pub mod Commands
+pub mod Causes
+pub mod Halting
+pub mod Running
