@@ -56,7 +56,7 @@ module _ (place : ℕ) (old new : ℕ → DeviceState) (others : (q : ℕ) → q
 
   -- the site refuses as the device did
   pub refused : (T U : Type 0) (error : DevError) → HasDeviceCause {T = T} (old place) (new place) (Err error) → RefusedFor place error (old place) (new place) → CallCause {T = U} old new (Err (trouble_of place (new place) error))
-  refused T U device.Failed cause why = record { now = refl; rose = cause }
+  refused T U device.Failed cause why = record { now = refl; rose = cause; others = λ q ne. ap (λ (d : DeviceState). d.faults) (others q ne) }
   refused T U device.Full cause why = record { used_is = why.kept.used; capacity_is = why.kept.capacity; passes = why.passes; calm = calm_at cause }
   refused T U device.NoFile cause why = calm_at cause
   refused T U device.Range cause why = calm_at cause

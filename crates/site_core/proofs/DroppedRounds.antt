@@ -3,6 +3,7 @@ use Rattle.std.proofs.Common.{◌≡◌, inl, inr, ℕ, ◌<◌, Bool, true, fal
 use Rattle.std.proofs.lemmas.List.{length-map}
 use Rattle.std.specs.Prelude.{◌&&◌, is_none, unwrap_or, option_map, if◌then◌else◌}
 use Rattle.std.specs.List.{list_all}
+use Rattle.scr_base.specs.declared.answers.Phase.TheVariants as phase
 use Rattle.scr_base.specs.declared.answers.Refusal.{Refusal}
 use Rattle.scr_base.specs.declared.answers.Refusal.TheVariants as refusal
 use Rattle.scr_base.specs.declared.answers.Reply.{Reply}
@@ -51,6 +52,10 @@ use Rattle.site_core.proofs.Removing.{dropping_at, dropped_at}
 abbrev with_dataset : Contents → Core → Dataset → Machine
 with_dataset bytes c d = let m : Machine = running bytes c in record m { open_dataset = Some d }
 
+-- the dataset is gone, and the clock's reading is still there
+abbrev closing_core : Core → Core
+closing_core c = record c { stage = stage.Serving; opened = None; phase = phase.Idle; refusal = None }
+
 module _ (c : Core) (bytes : Contents) (d : Dataset) (valid : Bool) (complete : is_complete c.ranks ≡ true) (first : first_call c.ranks ≡ Some (step.Complete valid)) (clear : verdict_of c (step.Complete valid) ≡ None) where
   call : Step
   call = step.Complete valid
@@ -58,7 +63,7 @@ module _ (c : Core) (bytes : Contents) (d : Dataset) (valid : Bool) (complete : 
   clear_then : verdict (with_dataset bytes c d) ≡ None
   clear_then = verdict_is c bytes (step.Complete valid) first ∙ clear
 
-  closes : (a : Reply) → may_answer (setup_of c) (with_dataset bytes c d) a (step.Complete valid) ≡ true → effect_of (setup_of c) (with_dataset bytes c d) a (step.Complete valid) ≡ running bytes (closed_core c)
+  closes : (a : Reply) → may_answer (setup_of c) (with_dataset bytes c d) a (step.Complete valid) ≡ true → effect_of (setup_of c) (with_dataset bytes c d) a (step.Complete valid) ≡ running bytes (closing_core c)
       → StepsTo (setup_of c) (with_dataset bytes c d) (event.Decided kind.Complete a) (running bytes (closed_core (record c { ranks = map (owed a) c.ranks })))
   closes a may changes = (
     both _ _ (round_is c bytes ∙ complete) (ap (λ (o : Option Step). unwrap_or (option_map (λ x. Rattle.ckpt_model.specs.Answers.is_of_kind kind.Complete x && may_answer (setup_of c) (with_dataset bytes c d) a x) o) false) (first_is c.ranks ∙ first) ∙ may),
@@ -123,6 +128,7 @@ dropped_decided first c programs states events events' a at is more leads =
       };
       files = record {
         stored = h.stored;
+        halted = h.halted;
         files = λ y known. h.files y (kept_one y known);
         records = λ i y here sealed. h.records i y here;
         others = λ p which node low place foreign. none_there h p which node low place foreign (cells_of states p (record_name which node)) refl;

@@ -5,6 +5,7 @@ use Rattle.std.proofs.Math.Path.{fun_ext}
 use Rattle.std.proofs.lemmas.List.{get_or_past}
 use Rattle.std.proofs.lemmas.List.FromFn.{length-range_with_len}
 use Rattle.site_core.specs.Shown.{all_files}
+use Rattle.site_core.proofs.Halts.{halt_same}
 use Rattle.site_core.proofs.Hands.{same_all}
 use Rattle.std.specs.List.{list_any, list_all}
 use Rattle.std.proofs.lemmas.Bool.{cases_eq}
@@ -102,7 +103,7 @@ ended first c programs states events events' at leads complete all more =
         record {
           is = refl;
           well = record { places = h.well.places; rise = h.well.rise; below = h.well.below; sets = h.well.sets; opened_run = h.well.opened_run; opened_below = h.well.opened_below; opened_last = h.well.opened_last; output = h.well.output; ranks = h.well.ranks };
-          files = record { stored = h.files.stored; files = h.files.files; records = h.files.records; others = h.files.others; future = h.files.future; fresh = h.files.fresh };
+          files = record { stored = h.files.stored; halted = h.files.halted; files = h.files.files; records = h.files.records; others = h.files.others; future = h.files.future; fresh = h.files.fresh };
           quiet = quiet;
           unrecorded = none;
           settled = all-settled c.kept working.0 working.1;
@@ -262,6 +263,9 @@ module _ (c : Core) (states after : ℕ → DeviceState) (m : Machine) (h : IsOv
             → kept_of (setup_of c) (contents_of (cells_of states) c) c.places x ≡ kept_of (setup_of c) (contents_of (cells_of after) c) c.places x
         kept_files e = ap (λ (fs : List (List Rattle.ckpt_model.specs.Dataset.File)). let k : Kept = kept_of (setup_of c) (contents_of (cells_of states) c) c.places x in let d : Rattle.ckpt_model.specs.Dataset.Dataset = k.dataset in record k { dataset = record d { files = fs } }) e
 
+  prefix_same : cells_of after 32 ≡ cells_of states 32
+  prefix_same = fun_ext (λ q. stays 32 q (omega arith) (λ on. absurd (omega (arith, on, few_nodes c.shape))))
+
   -- the devices stand for the run's last state
   pub crashed : StandsFor (setup_of c) after m
   crashed =
@@ -270,7 +274,7 @@ module _ (c : Core) (states after : ℕ → DeviceState) (m : Machine) (h : IsOv
         sets = sets;
         quiet = λ p q low. (crash p low).at_rest q;
         store = record {
-          stored = ap (λ (f : List ℕ → Option (List ℕ)). Rattle.site_core.specs.Stored.run_number (Rattle.gated_record.specs.Pair.pair_value (codes "run") f)) (fun_ext (λ q. stays 32 q (omega arith) (λ on. absurd (omega (arith, on, few_nodes c.shape))))) ∙ h.files.stored ∙ sym (ap (λ (x : Machine). x.run) h.is);
+          stored = ap (λ (f : List ℕ → Option (List ℕ)). Rattle.site_core.specs.Stored.run_number (Rattle.gated_record.specs.Pair.pair_value (codes "run") f)) prefix_same ∙ h.files.stored ∙ sym (ap (λ (x : Machine). x.run) h.is);
           rise = subst (λ (xs : List Cached). AscendFrom 1 xs) (sym (settled-again c.kept h.settled)) h.well.rise;
           sets_are = λ x one. subst (λ (r : ℕ). IsOfSite c.shape r x) (sym (ap (λ (y : Machine). y.run) h.is)) (h.well.sets x (inr (in_cache x one)));
           files = λ x one. subst (λ (ps : List ℕ). FilesStand (cells_of after) ps c.shape.ranks x) h.well.places (kept_stands x (in_cache x one));
@@ -284,7 +288,7 @@ module _ (c : Core) (states after : ℕ → DeviceState) (m : Machine) (h : IsOv
             ∙ ap (λ (xs : List Cached). map (kept_of (setup_of c) (contents_of (cells_of after) c) c.places) xs) (sym (settled-again c.kept h.settled))
             ∙ ap (λ (ps : List ℕ). map (kept_of (setup_of c) (contents_in (cells_of after) ps c.shape.ranks) ps) (map settled_set sets)) h.well.places;
         index = ap (λ (y : Machine). y.index) h.is;
-        halt = ap (λ (y : Machine). y.halt) h.is;
+        halt = ap (λ (y : Machine). y.halt) h.is ∙ sym (halt_same (cells_of states) (cells_of after) prefix_same ∙ h.files.halted);
         mark_is = ap (λ (y : Machine). y.mark) h.is;
       } where
         in_cache : (x : Manifest) → IsOneOf (map (λ (y : Cached). y.manifest) c.kept) x → IsAmong c.kept x

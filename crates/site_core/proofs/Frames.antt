@@ -97,5 +97,8 @@ module _ (old new : Cells) (places : List ℕ) (ranks place : ℕ) (which : Data
       known (subst (λ (x : DataId). IsFuture run next x) (data-same w which s.id s.run) future))
       ∙ none p w node local i low n sl si future
 
+  pub prefix_stays : place < 32 → new 32 ≡ old 32
+  prefix_stays low = fun_ext (λ q. change.elsewhere 32 q (λ same. absurd (omega (arith, same, low))))
+
   pub stored_stays : place < 32 → stored_run new ≡ stored_run old
-  stored_stays low = ap (λ (f : List ℕ → Option (List ℕ)). Rattle.site_core.specs.Stored.run_number (Rattle.gated_record.specs.Pair.pair_value (codes "run") f)) (fun_ext (λ q. change.elsewhere 32 q (λ same. absurd (omega (arith, same, low)))))
+  stored_stays low = ap (λ (f : List ℕ → Option (List ℕ)). Rattle.site_core.specs.Stored.run_number (Rattle.gated_record.specs.Pair.pair_value (codes "run") f)) (prefix_stays low)

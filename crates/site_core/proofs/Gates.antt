@@ -75,7 +75,7 @@ both false b p q = absurd (cc p)
 -- the round is decided by what the answer changes, and by every rank's reply
 pub decides : (c d : Core) (bytes : Contents) (k : Kind) (a : Reply) (call : Step) → is_complete c.ranks ≡ true → first_call c.ranks ≡ Some call → is_of_kind k call ≡ true
     → may_answer (setup_of c) (running bytes c) a call ≡ true → effect_of (setup_of c) (running bytes c) a call ≡ running bytes d → d.ranks ≡ c.ranks
-    → StepsTo (setup_of c) (running bytes c) (event.Decided k a) (running bytes (record d { ranks = map (owed a) c.ranks }))
+    → StepsTo (setup_of c) (running bytes c) (event.Decided k a) (running bytes (record d { ranks = map (owed a) c.ranks; reading = None }))
 decides c d bytes k a call complete first of may effect same = (
   both (is_round (running bytes c)) _ (round_is c bytes ∙ complete)
       (ap (λ (o : Option Step). unwrap_or (option_map (λ x. is_of_kind k x && may_answer (setup_of c) (running bytes c) a x) o) false) (first_is c.ranks ∙ first) ∙ both (is_of_kind k call) _ of may),
@@ -90,7 +90,7 @@ unrefused _ is = refl
 -- the verdict on the round refuses it
 pub refuses : (c : Core) (bytes : Contents) (k : Kind) (r : Refusal) (call : Step) → is_complete c.ranks ≡ true → first_call c.ranks ≡ Some call → is_of_kind k call ≡ true
     → verdict (running bytes c) ≡ Some r → is_fault (reply.Refused r) ≡ false
-    → StepsTo (setup_of c) (running bytes c) (event.Decided k (reply.Refused r)) (running bytes (record c { ranks = map (owed (reply.Refused r)) c.ranks }))
+    → StepsTo (setup_of c) (running bytes c) (event.Decided k (reply.Refused r)) (running bytes (record c { ranks = map (owed (reply.Refused r)) c.ranks; reading = None }))
 refuses c bytes k r call complete first of is no_fault =
     let s = setup_of c in
     let m = running bytes c in
@@ -103,7 +103,7 @@ refuses c bytes k r call complete first of is no_fault =
 -- nothing speaks against the round, and this is its answer
 pub answers : (c d : Core) (bytes : Contents) (k : Kind) (a : Reply) (call : Step) → is_complete c.ranks ≡ true → first_call c.ranks ≡ Some call → is_of_kind k call ≡ true
     → verdict (running bytes c) ≡ None → is_refused a ≡ false → answer_to (setup_of c) (running bytes c) call ≡ Some a → effect (setup_of c) (running bytes c) call a ≡ running bytes d → d.ranks ≡ c.ranks
-    → StepsTo (setup_of c) (running bytes c) (event.Decided k a) (running bytes (record d { ranks = map (owed a) c.ranks }))
+    → StepsTo (setup_of c) (running bytes c) (event.Decided k a) (running bytes (record d { ranks = map (owed a) c.ranks; reading = None }))
 answers c d bytes k a call complete first of clear no_refusal is changes same =
     let s = setup_of c in
     let m = running bytes c in

@@ -20,7 +20,7 @@ front_step [] more n s e = absurd (cc e)
 front_step (x ∷ steps) more zero s e = e
 front_step (x ∷ steps) more (suc n) s e = front_step steps more n s e
 
-still_there : (programs : List (List Step)) (rank : ℕ) (more : Step) (r n : ℕ) (s : Step) → slice_get (unwrap_or (slice_get programs r) []) n ≡ Some s → slice_get (unwrap_or (slice_get (lengthened programs rank more) r) []) n ≡ Some s
+pub still_there : (programs : List (List Step)) (rank : ℕ) (more : Step) (r n : ℕ) (s : Step) → slice_get (unwrap_or (slice_get programs r) []) n ≡ Some s → slice_get (unwrap_or (slice_get (lengthened programs rank more) r) []) n ≡ Some s
 still_there [] rank more r n s e = absurd (cc e)
 still_there (p ∷ programs) zero more zero n s e = front_step p more n s e
 still_there (p ∷ programs) zero more (suc r) n s e = e

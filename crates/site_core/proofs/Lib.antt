@@ -17,6 +17,10 @@ pub mod RefusedCalls
 pub mod Works
 pub mod Starting
 pub mod Files
+pub mod Halts
+pub mod HaltCommands
+pub mod Times
+pub mod Readings
 pub mod Hands
 pub mod Locals
 pub mod Finds
@@ -45,3 +49,8 @@ pub mod LocalRefusals
 pub mod Lengthened
 pub mod Appending
 pub mod Halting
+pub mod AheadSeats
+pub mod AheadCores
+pub mod Orders
+pub mod InOrder
+pub mod Accounts

@@ -125,8 +125,11 @@ module _ (c : Core) (m : Manifest) (n place : ℕ) (old new : Cells) (w : IsWell
   pub future_gone : (run next : ℕ) → NoFutureFiles old run next → NoFutureFiles new run next
   future_gone run next none p which node local j lw at sl sj future = loss.gone p (part_name which node (File local j)) (none p which node local j lw at sl sj future)
 
+  pub prefix_same : new 32 ≡ old 32
+  prefix_same = fun_ext (λ q. loss.elsewhere 32 q (λ e. absurd (omega (arith, e, low))))
+
   pub stored_same : stored_run new ≡ stored_run old
-  stored_same = ap (λ (f : List ℕ → Option (List ℕ)). Rattle.site_core.specs.Stored.run_number (Rattle.gated_record.specs.Pair.pair_value (codes "run") f)) (fun_ext (λ q. loss.elsewhere 32 q (λ e. absurd (omega (arith, e, low)))))
+  stored_same = ap (λ (f : List ℕ → Option (List ℕ)). Rattle.site_core.specs.Stored.run_number (Rattle.gated_record.specs.Pair.pair_value (codes "run") f)) prefix_same
 
   pub kept_same : (s : Setup) → map (kept_of s (contents_in new c.places c.shape.ranks) c.places) c.kept ≡ map (kept_of s (contents_in old c.places c.shape.ranks) c.places) c.kept
   kept_same s = each c.kept (λ i x at. other_contents x.manifest.desc.which (kept_other c m x.manifest w opened (i, x, at, refl))) where

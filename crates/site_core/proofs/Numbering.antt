@@ -14,12 +14,14 @@ use Rattle.ckpt_model.specs.Legal.{IsRunOf}
 use Rattle.ckpt_model.specs.Legal.Place.{AtEnd}
 use Rattle.ckpt_model.specs.Runs.{StepsTo}
 use Rattle.ckpt_model.proofs.RunLemmas.{run_on}
+use Rattle.halt_file.specs.Conditions.{conditions}
+use Rattle.halt_file.specs.declared.halt.Halt.{Halt}
 use Rattle.site_core.specs.declared.core_state.Core.{Core}
 use Rattle.site_core.specs.declared.core_state.Stage.{Stage}
 use Rattle.site_core.specs.declared.core_state.Stage.TheVariants as stage
 use Rattle.site_core.specs.Numbers.{way_of}
 use Rattle.site_core.specs.Shown.{setup_of, kept_of}
-use Rattle.site_core.specs.Stored.{cells_of, contents_in, stored_run, run_number, FilesStand, RecordsStand, NoOtherRecords}
+use Rattle.site_core.specs.Stored.{cells_of, contents_in, stored_run, stored_halt, run_number, FilesStand, RecordsStand, NoOtherRecords}
 use Rattle.site_core.specs.Holds.{HoldsAt, ToldAt, Leads, IsOneOf, settled_set, IsBegun, IsStoring}
 
 begun_at : (s : Stage) (c : Core) (states : ℕ → DeviceState) (m : Machine) → s ≡ stage.Begun → HoldsAt s c states m → IsBegun c states m
@@ -44,12 +46,12 @@ may_follow None n fits is = tt
 may_follow (Some value) n fits is = inr (next_below n fits ∙ ap next_version is)
 
 -- the run with this number, which is on its way
-abbrev pub numbered_core : Core → ℕ → Core
-numbered_core c run = record c { stage = stage.Storing; run = run; storing = way_of run }
+abbrev pub numbered_core : Core → ℕ → Halt → Core
+numbered_core c run halt = record c { stage = stage.Storing; run = run; halt = halt; storing = way_of run }
 
-pub numbered : (first : Machine) (c : Core) (programs : List (List Step)) (states : ℕ → DeviceState) (events : List Event) (n : ℕ) → c.stage ≡ stage.Begun → n + 1 < 2 ^ 32 → n ≡ stored_run (cells_of states)
-    → Leads first c programs states events → Leads first (numbered_core c (n + 1)) programs states events
-numbered first c programs states events n at fits is leads =
+pub numbered : (first : Machine) (c : Core) (programs : List (List Step)) (states : ℕ → DeviceState) (events : List Event) (n : ℕ) (halt : Halt) → c.stage ≡ stage.Begun → n + 1 < 2 ^ 32 → n ≡ stored_run (cells_of states)
+    → conditions halt ≡ stored_halt (cells_of states) → Leads first c programs states events → Leads first (numbered_core c (n + 1) halt) programs states events
+numbered first c programs states events n halt at fits is told leads =
     let m = leads.state in
     let b = begun_at c.stage c states m at leads.holds in
     let fresh = b.fresh in
@@ -60,12 +62,12 @@ numbered first c programs states events n at fits is leads =
       state = m;
       run = leads.run;
       holds = record {
-        fresh = record { places = fresh.places; phase_is = fresh.phase_is; offer = fresh.offer; opened = fresh.opened; ranks = fresh.ranks; settled = fresh.settled };
+        fresh = record { places = fresh.places; phase_is = fresh.phase_is; offer = fresh.offer; opened = fresh.opened; ranks = fresh.ranks; settled = fresh.settled; needs = fresh.needs; reading = fresh.reading };
         sets = h.sets;
         old = old;
         old_is = h.store.stored;
         want = refl;
-        way = λ told. record {
+        way = λ tells. record {
           leaves = λ a b may_a may_b.
               ap₂ newer (ap (value_in 0) (rest_leaves ((states 32).file (copy_name (codes "run") 0)) a (h.quiet 32 (copy_name (codes "run") 0) (omega arith)) may_a))
               (ap (value_in 1) (rest_leaves ((states 32).file (copy_name (codes "run") 1)) b (h.quiet 32 (copy_name (codes "run") 1) (omega arith)) may_b));
@@ -81,7 +83,8 @@ numbered first c programs states events n at fits is leads =
         between = h.between;
         kept = subst (λ (ps : List ℕ). m.kept ≡ map (kept_of (setup_of c) (contents_in (cells_of states) ps c.shape.ranks) ps) (map settled_set h.sets)) (sym fresh.places) h.kept;
         index = h.index;
-        halt = h.halt;
+        halt = h.halt ∙ sym told;
+        halted = sym told;
         mark_is = h.mark_is;
         run = ap (λ (k : ℕ). k + 1) (is ∙ h.store.stored);
         fits = fits;

@@ -21,6 +21,7 @@ use Rattle.site_core.specs.declared.core_state.Core.{Core}
 use Rattle.site_core.specs.Choosing.{is_being_sealed}
 use Rattle.site_core.specs.Calls.{Synced}
 use Rattle.site_core.specs.Stored.{Cells, cells_of, contents_in, contents_of, is_named, place_of_rank, file_name, FilesStand, FileStands, RecordIs, IsAmong, IsKnown, NoOtherRecords, NoFutureFiles, NoMoreFiles, IsWell, IsOfSite, FilesHold, stored_run, ChangesFile}
+use Rattle.site_core.proofs.Halts.{halt_same}
 use Rattle.site_core.proofs.Names.{records-same, part_no_record}
 use Rattle.site_core.proofs.Frames.{IsNamed, named, is_place, data-same, file_no_record}
 use Rattle.site_core.proofs.Puts.{row_named, row_rank, few_rows, few_nodes}
@@ -91,9 +92,13 @@ module _ (c : Core) (m : Manifest) (node place : ℕ) (old new : Cells) (w : IsW
   other_record : (p : ℕ) (which : DataId) (n : ℕ) → IsPlace which n → (which ≡ m.desc.which → n ≡ node → ⊥) → new p (record_name which n) ≡ old p (record_name which n)
   other_record p which n at other = change.others p (record_name which n) (λ e. let s = records-same which m.desc.which n node at here e in other (data-same which m.desc.which s.id s.run) s.node_is)
 
+  prefix_same : new 32 ≡ old 32
+  prefix_same = fun_ext (λ q. change.elsewhere 32 q (λ e. absurd (omega (arith, e, low))))
+
   pub record_holds : FilesHold c new
   record_holds = record {
-    stored = ap (λ (g : List ℕ → Option (List ℕ)). Rattle.site_core.specs.Stored.run_number (Rattle.gated_record.specs.Pair.pair_value (codes "run") g)) (fun_ext (λ q. change.elsewhere 32 q (λ e. absurd (omega (arith, e, low))))) ∙ f.stored;
+    stored = ap (λ (g : List ℕ → Option (List ℕ)). Rattle.site_core.specs.Stored.run_number (Rattle.gated_record.specs.Pair.pair_value (codes "run") g)) prefix_same ∙ f.stored;
+    halted = halt_same old new prefix_same ∙ f.halted;
     files = λ x is rank j row at.
         let of = w.sets x is in
         let rlt = row_rank x.files rank j row at in

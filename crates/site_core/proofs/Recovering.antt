@@ -104,7 +104,7 @@ mending-found sets = map-map (come_to mark.Mending) settled_set found_set (λ m.
 -- what recovery leaves in memory shows the state
 shown : (c : Core) (bytes : Contents) (next : ℕ) (sets : List Manifest) → IsFresh c
     → (let m : Machine = begun c next (map (kept_of (setup_of c) bytes c.places) (map found_set sets)) in record m { stage = Place.Running; next = greatest_id (map settled_set sets) + 1 }) ≡ running bytes (found_core c sets)
-shown c bytes next sets fresh = rw (fresh.phase_is, fresh.offer, fresh.opened, fresh.ranks, fresh.settled, fresh-ranks (c.shape.nodes * c.shape.ranks)) refl
+shown c bytes next sets fresh = rw (fresh.phase_is, fresh.offer, fresh.opened, fresh.ranks, fresh.settled, fresh.needs, fresh.reading, fresh-ranks (c.shape.nodes * c.shape.ranks)) refl
 
 pub found : (first : Machine) (c : Core) (programs : List (List Step)) (states : ℕ → DeviceState) (events events' : List Event) (sets : List Manifest) (h : Leads first c programs states events) (at : c.stage ≡ stage.Looking)
     → (looking c.stage c states h.state at h.holds).sets ≡ sets → 0 < c.shape.nodes
@@ -140,6 +140,7 @@ found first c programs states events events' sets h at are some more =
       };
       files = record {
         stored = store.stored;
+        halted = look.halted;
         files = λ m known. subst (λ (ps : List ℕ). FilesStand (cells_of states) ps c.shape.ranks m) (sym fresh.places) (store.files m (known_found c sets m fresh.opened known));
         records = λ i x is sealed. records_at fresh store i x is;
         others = subst (λ (ps : List ℕ). NoOtherRecords (IsKnown d) (cells_of states) ps) (sym fresh.places)
@@ -191,6 +192,7 @@ mends_one first c programs states events events' x at next leads more =
       };
       files = record {
         stored = h.files.stored;
+        halted = h.files.halted;
         files = λ y known. h.files.files y (known_before which closed y known);
         records = λ i y is sealed. let z = settled-at which c.kept i y is in
             subst (λ (m : Manifest). RecordsStand (cells_of states) c.places m) (sym (settled-manifest which z.0) ∙ ap (λ (w : Cached). w.manifest) z.2) (h.files.records i z.0 z.1 (none-passes seals c.kept i z.0 working.1 z.1));
@@ -233,7 +235,7 @@ serves_now first c programs states events at none leads =
       run = h.run;
       so_far = h.so_far;
       well = record { places = h.well.places; rise = h.well.rise; below = h.well.below; sets = h.well.sets; opened_run = h.well.opened_run; opened_below = h.well.opened_below; opened_last = h.well.opened_last; output = h.well.output; ranks = h.well.ranks };
-      files = record { stored = h.files.stored; files = h.files.files; records = h.files.records; others = h.files.others; future = h.files.future; fresh = h.files.fresh };
+      files = record { stored = h.files.stored; halted = h.files.halted; files = h.files.files; records = h.files.records; others = h.files.others; future = h.files.future; fresh = h.files.fresh };
       quiet = quiet;
       unrecorded = λ m e. absurd (cc (working.0, e));
       working = (none, working.1);

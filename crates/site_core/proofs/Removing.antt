@@ -41,7 +41,8 @@ use Rattle.site_core.proofs.Refusals.{cells_alike, refused_rest, alike_rest}
 use Rattle.site_core.proofs.RecordFiles.{alike_cells, synced_rest}
 use Rattle.site_core.proofs.Saving.{place_of_node}
 use Rattle.site_core.proofs.SaveEnds.{none-passes, none-if}
-use Rattle.site_core.proofs.Losses.{Loses, loses, others_rest, kept_stand, records_kept, others_gone, future_gone, stored_same, kept_same, file_of}
+use Rattle.site_core.proofs.Halts.{halt_same}
+use Rattle.site_core.proofs.Losses.{Loses, loses, others_rest, kept_stand, records_kept, others_gone, future_gone, prefix_same, stored_same, kept_same, file_of}
 
 -- ## A core at another stage of the removal
 
@@ -116,6 +117,7 @@ begins_by first c programs states events m which refusal is h run so_far =
           round = record { complete = h.complete; valid = h.valid; first = h.first; clear = h.clear; why = h.why };
           well = record { places = h.well.places; rise = h.well.rise; below = h.well.below; sets = h.well.sets; opened_run = h.well.opened_run; opened_below = h.well.opened_below; opened_last = h.well.opened_last; output = h.well.output; ranks = h.well.ranks };
           stored = h.files.stored;
+          halted = h.files.halted;
           files = λ x among. h.files.files x (inr among);
           records = λ i x at. h.files.records i x at (none-passes seals c.kept i x h.sealed at);
           others = h.files.others;
@@ -232,6 +234,7 @@ module _ (c : Core) (states after : ℕ → DeviceState) (m : Machine) (gone set
     round = going_for c s r h.round;
     well = going_well c s r h.well;
     stored = stored_same c h.set n n (cells_of states) (cells_of after) h.well h.opened small low_place loss ∙ h.stored;
+    halted = halt_same (cells_of states) (cells_of after) (prefix_same c h.set n n (cells_of states) (cells_of after) h.well h.opened small low_place loss) ∙ h.halted;
     files = λ x among. kept_stand c h.set n n (cells_of states) (cells_of after) h.well h.opened small low_place loss x among (h.files x among);
     records = λ i x at. records_kept c h.set n n (cells_of states) (cells_of after) h.well h.opened small low_place loss x.manifest (i, x, at, refl) (h.records i x at);
     others = others_gone c h.set n n (cells_of states) (cells_of after) h.well h.opened small low_place loss (IsKnown c) h.others;
@@ -325,6 +328,7 @@ module _ (c : Core) (states after : ℕ → DeviceState) (m : Machine) (gone set
         round = going_for c s r h.round;
         well = going_well c s r h.well;
         stored = ap (λ (cells : Cells). Rattle.site_core.specs.Stored.stored_run cells) same ∙ h.stored;
+        halted = ap (λ (cells : Cells). Rattle.site_core.specs.Stored.stored_halt cells) same ∙ h.halted;
         files = subst (λ (cells : Cells). (x : Manifest) → IsAmong c.kept x → Rattle.site_core.specs.Stored.FilesStand cells c.places c.shape.ranks x) (sym same) h.files;
         records = subst (λ (cells : Cells). (i : ℕ) (x : Cached) → slice_get c.kept i ≡ Some x → Rattle.site_core.specs.Stored.RecordsStand cells c.places x.manifest) (sym same) h.records;
         others = subst (λ (cells : Cells). Rattle.site_core.specs.Stored.NoOtherRecords (IsKnown c) cells c.places) (sym same) h.others;

@@ -19,6 +19,7 @@ use Rattle.site_core.specs.Cores.{IsNewCore}
 use Rattle.site_core.specs.Shown.{Contents, setup_of, kept_of}
 use Rattle.site_core.specs.Stored.{cells_of, run_number}
 use Rattle.site_core.specs.Holds.{HoldsAt, ToldAt, Leads, StandsFor, HasRest, IsOneOf, settled_set, IsBegun}
+use Rattle.site_core.proofs.Halts.{halt_same}
 use Rattle.site_core.proofs.Stored.{others_after, future_after, contents_after, files_after, records_after}
 use Rattle.site_core.proofs.Ending.{crashed}
 
@@ -34,6 +35,8 @@ begun_leads first shape config c programs states events new none stands =
         opened = new.opened;
         ranks = new.ranks ∙ ap (λ (s : Shape). replicate (s.nodes * s.ranks) fresh_seat) (sym new.shape_is);
         settled = new.settled;
+        needs = new.needs;
+        reading = new.reading;
       };
       stands = subst (λ (s : Setup). StandsFor s states first) (sym same) stands;
     } in
@@ -66,7 +69,7 @@ module _ (s : Setup) (states after : ℕ → DeviceState) (m : Machine) (crash :
         between = h.between;
         kept = h.kept ∙ ap (λ (bytes : Contents). map (kept_of s bytes places) (map settled_set h.sets)) (sym (contents_after states after nodes s.shape places refl));
         index = h.index;
-        halt = h.halt;
+        halt = h.halt ∙ sym (halt_same (cells_of states) (cells_of after) (same 32 (omega arith)));
         mark_is = h.mark_is;
       }
 

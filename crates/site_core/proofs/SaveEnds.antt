@@ -165,6 +165,7 @@ seal_told first c programs states events events' w n m h opened more =
       };
       files = record {
         stored = h.files.stored;
+        halted = h.files.halted;
         files = λ y known. h.files.files y (known_before y known);
         records = λ i y at sealed. at_old i y at sealed (last-or-before c.kept x y i at);
         others = λ p which node low at foreign. h.files.others p which node low at (λ y known. foreign y (known_after y known));
@@ -342,6 +343,7 @@ module _ (first : Machine) (c : Core) (programs : List (List Step)) (states afte
         };
         files = subst (λ (cells : Cells). FilesHold d cells) (sym same) (record {
           stored = h.files.stored;
+          halted = h.files.halted;
           files = λ y known. h.files.files y (known_settled c m.desc.which y known);
           records = λ i y at sealed. records_then i y at;
           others = λ p which node low at foreign. h.files.others p which node low at (λ y known. foreign y (settled_known c m.desc.which y known));

@@ -25,12 +25,12 @@ use Rattle.site_core.specs.declared.cache.Manifest.{Manifest}
 use Rattle.site_core.specs.declared.core_state.Core.{Core}
 use Rattle.site_core.specs.declared.core_state.Stage.{Stage}
 use Rattle.site_core.specs.declared.core_state.Stage.TheVariants as stage
-use Rattle.site_core.specs.Shown.{running, setup_of, mends, served}
+use Rattle.site_core.specs.Shown.{running, setup_of, mends, served, decided}
 use Rattle.site_core.specs.Choosing.{seals}
 use Rattle.site_core.specs.Stored.{cells_of, contents_of}
 use Rattle.site_core.specs.Holds.{Leads, WorkIs}
 use Rattle.site_core.specs.Follows.{IsNextCall, IsClearRound}
-use Rattle.site_core.proofs.Told.{is_up, led, serves}
+use Rattle.site_core.proofs.Told.{is_up, led, serves, turns}
 use Rattle.site_core.proofs.Gates.{calls, replies}
 
 pub some_same : {X : Type 0} (x y : X) → Some x ≡ Some y → x ≡ y
@@ -64,13 +64,13 @@ called_on first c programs states events events' rank call ranks at next arrived
     (calls c bytes rank next.seat call next.is next.free (at_work first c programs states events at leads).0 next.collective next.again))
     next.of_program refl more
 
-pub decided_on : (first : Machine) (c : Core) (programs : List (List Step)) (states : ℕ → DeviceState) (events events' : List Event) (kind : Kind) (answer : Reply) (p : Phase) (o : Option DataId) (ranks : List Seat) → c.stage ≡ stage.Serving → ((m : Manifest) → c.opened ≡ Some m → p ≡ phase.Output)
-    → StepsTo (setup_of c) (running (contents_of (cells_of states) c) c) (event.Decided kind answer) (running (contents_of (cells_of states) c) (served c p o (map (owed answer) c.ranks)))
-    → ranks ≡ map (owed answer) c.ranks → events' ≡ events ++ event.Decided kind answer ∷ [] → Leads first c programs states events → Leads first (served c p o ranks) programs states events'
-decided_on first c programs states events events' kind answer p o ranks at output step is more leads =
+pub decided_on : (first : Machine) (c : Core) (programs : List (List Step)) (states : ℕ → DeviceState) (events events' : List Event) (kind : Kind) (answer : Reply) (p : Phase) (o : Option DataId) (needs : ℕ) (ranks : List Seat) → c.stage ≡ stage.Serving → ((m : Manifest) → c.opened ≡ Some m → p ≡ phase.Output)
+    → StepsTo (setup_of c) (running (contents_of (cells_of states) c) c) (event.Decided kind answer) (running (contents_of (cells_of states) c) (decided c p o needs (map (owed answer) c.ranks)))
+    → ranks ≡ map (owed answer) c.ranks → events' ≡ events ++ event.Decided kind answer ∷ [] → Leads first c programs states events → Leads first (decided c p o needs ranks) programs states events'
+decided_on first c programs states events events' kind answer p o needs ranks at output step is more leads =
     let bytes = contents_of (cells_of states) c in
-    serves first c programs states events events' (event.Decided kind answer) p o ranks at (ap length is ∙ length-map c.ranks (owed answer)) output (led first c programs states events (ap is_up at) leads)
-    (subst (λ (rs : List Seat). StepsTo (setup_of c) (running bytes c) (event.Decided kind answer) (running bytes (served c p o rs))) (sym is) step)
+    turns first c programs states events events' (event.Decided kind answer) p o needs None ranks at (ap length is ∙ length-map c.ranks (owed answer)) output (led first c programs states events (ap is_up at) leads)
+    (subst (λ (rs : List Seat). StepsTo (setup_of c) (running bytes c) (event.Decided kind answer) (running bytes (decided c p o needs rs))) (sym is) step)
     tt refl more
 
 -- ## Phases
@@ -107,6 +107,7 @@ is_resting (step.Start name flags) = true
 is_resting step.Have = true
 is_resting step.Restart = true
 is_resting (step.Restarted valid) = true
+is_resting step.Finalize = true
 is_resting _ = false
 
 not_output : (p : Phase) (call : Step) → is_resting call ≡ true → allows p call ≡ true → p ≢ phase.Output
@@ -114,6 +115,7 @@ not_output p (step.Start name flags) is may same = absurd (cc (ap (λ (x : Phase
 not_output p step.Have is may same = absurd (cc (ap (λ (x : Phase). allows x step.Have) same, may))
 not_output p step.Restart is may same = absurd (cc (ap (λ (x : Phase). allows x step.Restart) same, may))
 not_output p (step.Restarted valid) is may same = absurd (cc (ap (λ (x : Phase). allows x (step.Restarted valid)) same, may))
+not_output p step.Finalize is may same = absurd (cc (ap (λ (x : Phase). allows x step.Finalize) same, may))
 not_output p _ is may same = absurd (cc is)
 
 pub rests_closed : (first : Machine) (c : Core) (programs : List (List Step)) (states : ℕ → DeviceState) (events : List Event) (call : Step) → c.stage ≡ stage.Serving → Leads first c programs states events → IsClearRound c call → is_resting call ≡ true → c.opened ≡ None

@@ -67,7 +67,7 @@ some_same x y e = cc
 
 -- the run with this dataset begun
 abbrev pub begun_core : Core → Manifest → List Seat → Core
-begun_core c m ranks = record c { opened = Some m; next = c.next + 1; phase = phase.Output; ranks = ranks }
+begun_core c m ranks = record c { opened = Some m; next = c.next + 1; phase = phase.Output; reading = None; ranks = ranks }
 
 pub begins : (first : Machine) (c : Core) (programs : List (List Step)) (states : ℕ → DeviceState) (events events' : List Event) (name : List ℕ) (flags : Flags) (m : Manifest) (which : DataId) (ranks : List Seat) → c.stage ≡ stage.Serving → IsClearRound c (step.Start name flags)
     → c.opened ≡ None → is_crowded c ≡ false → which ≡ record { id = c.next; run = c.run } → IsOpened c name flags m → HasShape c m → ranks ≡ map (owed (reply.Started which)) c.ranks
@@ -96,6 +96,7 @@ begins first c programs states events events' name flags m which ranks at round 
       };
       files = record {
         stored = h.files.stored;
+        halted = h.files.halted;
         files = λ x known. stands h.files.files x known;
         records = h.files.records;
         others = λ p w node low place foreign. h.files.others p w node low place (λ x known same home. foreign x (known_more x known) same home);

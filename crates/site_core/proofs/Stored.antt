@@ -9,7 +9,7 @@ use Rattle.std.proofs.lemmas.Slice.Eq.{bytes_eq-Decides}
 use Rattle.std.proofs.lemmas.Option.{get_or_from_slice_get}
 use Rattle.std.proofs.lemmas.List.{get_or_past}
 use Rattle.std.proofs.lemmas.List.FromFn.{length-range_with_len}
-use Rattle.scr_base.specs.Halt.{no_halt}
+use Rattle.halt_file.specs.Conditions.{conditions}
 use Rattle.scr_base.specs.Sets.{numbers_below, is_among}
 use Rattle.scr_base.specs.declared.shape.DataId.{DataId}
 use Rattle.scr_base.specs.declared.shape.Shape.{Shape}
@@ -41,6 +41,7 @@ use Rattle.site_core.specs.Numbers.{Way}
 use Rattle.site_core.specs.Shown.{Contents, setup_of, kept_of, begun}
 use Rattle.site_core.specs.Stored.{cells_of, contents_of, contents_in, is_named, place_of_rank, file_name, run_number, FilesStand, FileStands, RecordsStand, RecordIs, NoOtherRecords, NoFutureFiles, IsFuture}
 use Rattle.site_core.specs.Holds.{HoldsAt, Leads, IsOneOf, settled_set, IsStoring, IsSoFar}
+use Rattle.site_core.proofs.Halts.{halt_apart}
 use Rattle.site_core.proofs.Puts.{place_is, few_nodes}
 use Rattle.site_core.proofs.Numbering.{storing_at, told_storing}
 
@@ -122,7 +123,7 @@ stepped first c programs states after events over way at same done leads =
     let d : Core = record c { storing = way } in
     let way_on : IsPairStage (codes "run") h.old c.storing.want (after 32) way.changes = (done.here.goes h.old h.way).stage in
     let holds : IsStoring d after m = record {
-      fresh = record { places = fresh.places; phase_is = fresh.phase_is; offer = fresh.offer; opened = fresh.opened; ranks = fresh.ranks; settled = fresh.settled };
+      fresh = record { places = fresh.places; phase_is = fresh.phase_is; offer = fresh.offer; opened = fresh.opened; ranks = fresh.ranks; settled = fresh.settled; needs = fresh.needs; reading = fresh.reading };
       sets = h.sets;
       old = h.old;
       old_is = h.old_is;
@@ -139,6 +140,7 @@ stepped first c programs states after events over way at same done leads =
       kept = h.kept ∙ ap (λ (bytes : Contents). map (kept_of (setup_of c) bytes c.places) (map settled_set h.sets)) (sym (contents_after states after nodes c.shape c.places places));
       index = h.index;
       halt = h.halt;
+      halted = halt_apart states after done.here.only ∙ h.halted;
       mark_is = h.mark_is;
       run = h.run;
       fits = h.fits;
@@ -186,7 +188,7 @@ four a b c d p q r t = rw (p, q, r, t) refl
 small_run : (n k : ℕ) → k ≡ n + 1 → k < 2 ^ 32 → nat_lt n 4294967295 ≡ true
 small_run n k e lt = grind (arith, nat_tests, e, lt)
 
-begun_is : (c : Core) (m : Machine) (kept : List Kept) → m.kept ≡ kept → m.index ≡ [] → m.halt ≡ no_halt → m.mark ≡ None → begun c m.next kept ≡ after_begin (setup_of c) m c.run c.places
+begun_is : (c : Core) (m : Machine) (kept : List Kept) → m.kept ≡ kept → m.index ≡ [] → m.halt ≡ conditions c.halt → m.mark ≡ None → begun c m.next kept ≡ after_begin (setup_of c) m c.run c.places
 begun_is c m kept k i h e = rw (k, i, h, e) refl
 
 -- the run's number is stored: the run is told
@@ -215,7 +217,7 @@ arrived first c programs states after events events' over way at is_over tells d
       run = run_on (setup_of c) first m (begun c m.next kept) events events' (event.Run c.run c.places) more leads.run
           (four _ _ _ _ (ap is_between h.between) (equal c.run (m.run + 1) h.run) (small_run m.run c.run h.run h.fits) (ap (are_places (setup_of c)) places ∙ places_fit (setup_of c)), begun_is c m kept kept_is h.index h.halt h.mark_is);
       holds = record {
-        fresh = record { places = fresh.places; phase_is = fresh.phase_is; offer = fresh.offer; opened = fresh.opened; ranks = fresh.ranks; settled = fresh.settled };
+        fresh = record { places = fresh.places; phase_is = fresh.phase_is; offer = fresh.offer; opened = fresh.opened; ranks = fresh.ranks; settled = fresh.settled; needs = fresh.needs; reading = fresh.reading };
         sets = h.sets;
         next = m.next;
         quiet = λ p q low. pick p q low at_rest (cases_eq p 32) (is_or_not q (copy_name (codes "run") 0)) (is_or_not q (copy_name (codes "run") 1)) (h.quiet p q low);
@@ -228,6 +230,7 @@ arrived first c programs states after events events' over way at is_over tells d
           others = subst (λ (ps : List ℕ). NoOtherRecords (IsOneOf h.sets) (cells_of after) ps) places (others_after states after nodes (IsOneOf h.sets) c.places h.others);
           future = λ p which node local j low place sl sj later. future p which node local j low place sl sj (sooner which later);
         };
+        halted = halt_apart states after done.here.only ∙ h.halted;
         runs = λ x one. let of = h.sets_are x one in omega (arith, of.run_is, h.run);
         future = future;
         is = refl;

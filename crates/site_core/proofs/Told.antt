@@ -162,20 +162,31 @@ leads_up first c programs states events up h = record {
 pub appended : (a b c : List Event) (e e' : Event) → a ≡ b ++ e ∷ [] → b ≡ c → e ≡ e' → a ≡ c ++ e' ∷ []
 appended a b c e e' p q r = p ∙ ap (λ x. x ++ e ∷ []) q ∙ ap (λ x. c ++ x ∷ []) r
 
+-- room was made before
+pub behind : {a b c : List Event} (e : Event) → a ≡ b ++ e ∷ [] → b ≡ c → a ≡ c ++ e ∷ []
+behind e p q = p ∙ ap (λ (x : List Event). x ++ e ∷ []) q
+
+pub with_room : {first : Machine} {c : Core} {programs : List (List Step)} {states : ℕ → DeviceState} {events events' : List Event} → events' ≡ events → Leads first c programs states events → Leads first c programs states events'
+with_room {first = first} {c = c} {programs = programs} {states = states} same l = subst (λ (es : List Event). Leads first c programs states es) (sym same) l
+
 -- ## Serving, with no file changed
 
-served_well : (c : Core) (p : Phase) (o : Option DataId) (ranks : List Seat) → length ranks ≡ length c.ranks → ((m : Manifest) → c.opened ≡ Some m → p ≡ phase.Output) → IsWell c → IsWell (served c p o ranks)
-served_well c p o ranks same output w = record { output = output; places = w.places; rise = w.rise; below = w.below; sets = w.sets; opened_run = w.opened_run; opened_below = w.opened_below; opened_last = w.opened_last; ranks = same ∙ w.ranks }
+-- the run serves on: its ranks, its phase, its offer, its count of questions and its reading of the clock may be others
+abbrev pub turned : Core → Phase → Option DataId → ℕ → Option ℕ → List Seat → Core
+turned c p o needs reading ranks = record c { phase = p; offer = o; needs = needs; reading = reading; ranks = ranks }
 
-served_files : (c : Core) (p : Phase) (o : Option DataId) (ranks : List Seat) (cells : Cells) → FilesHold c cells → FilesHold (served c p o ranks) cells
-served_files c p o ranks cells f = record { stored = f.stored; files = f.files; records = f.records; others = f.others; future = f.future; fresh = f.fresh }
+turned_well : (c : Core) (p : Phase) (o : Option DataId) (needs : ℕ) (reading : Option ℕ) (ranks : List Seat) → length ranks ≡ length c.ranks → ((m : Manifest) → c.opened ≡ Some m → p ≡ phase.Output) → IsWell c → IsWell (turned c p o needs reading ranks)
+turned_well c p o needs reading ranks same output w = record { output = output; places = w.places; rise = w.rise; below = w.below; sets = w.sets; opened_run = w.opened_run; opened_below = w.opened_below; opened_last = w.opened_last; ranks = same ∙ w.ranks }
 
-pub serves : (first : Machine) (c : Core) (programs : List (List Step)) (states : ℕ → DeviceState) (events events' : List Event) (e : Event) (p : Phase) (o : Option DataId) (ranks : List Seat)
+turned_files : (c : Core) (p : Phase) (o : Option DataId) (needs : ℕ) (reading : Option ℕ) (ranks : List Seat) (cells : Cells) → FilesHold c cells → FilesHold (turned c p o needs reading ranks) cells
+turned_files c p o needs reading ranks cells f = record { stored = f.stored; halted = f.halted; files = f.files; records = f.records; others = f.others; future = f.future; fresh = f.fresh }
+
+pub turns : (first : Machine) (c : Core) (programs : List (List Step)) (states : ℕ → DeviceState) (events events' : List Event) (e : Event) (p : Phase) (o : Option DataId) (needs : ℕ) (reading : Option ℕ) (ranks : List Seat)
     → c.stage ≡ stage.Serving → length ranks ≡ length c.ranks → ((m : Manifest) → c.opened ≡ Some m → p ≡ phase.Output) → IsLed first c programs states events
-    → StepsTo (setup_of c) (running (contents_of (cells_of states) c) c) e (running (contents_of (cells_of states) c) (served c p o ranks))
-    → IsOfProgram programs e → is_stop e ≡ false → events' ≡ events ++ e ∷ [] → Leads first (served c p o ranks) programs states events'
-serves first c programs states events events' e p o ranks at same output h step one goes more =
-    let d = served c p o ranks in
+    → StepsTo (setup_of c) (running (contents_of (cells_of states) c) c) e (running (contents_of (cells_of states) c) (turned c p o needs reading ranks))
+    → IsOfProgram programs e → is_stop e ≡ false → events' ≡ events ++ e ∷ [] → Leads first (turned c p o needs reading ranks) programs states events'
+turns first c programs states events events' e p o needs reading ranks at same output h step one goes more =
+    let d = turned c p o needs reading ranks in
     let serving : Core = record d { stage = stage.Serving } in
     let bytes = contents_of (cells_of states) c in
     let work : WorkIs stage.Serving c states = subst (λ (s : Stage). WorkIs s c states) at h.working in
@@ -184,10 +195,16 @@ serves first c programs states events events' e p o ranks at same output h step 
     let l : IsLed first d programs states events' = record {
       run = run_on (setup_of c) first (running bytes c) (running bytes d) events events' e more h.run step;
       so_far = tells_more c.places programs events events' e more h.so_far one goes;
-      well = served_well c p o ranks same output h.well;
-      files = served_files c p o ranks (cells_of states) h.files;
+      well = turned_well c p o needs reading ranks same output h.well;
+      files = turned_files c p o needs reading ranks (cells_of states) h.files;
       quiet = subst (λ (s : Stage). (p : ℕ) (q : List ℕ) → p ≤ 32 → (p < c.shape.nodes → IsPending s d q → ⊥) → Rattle.node_device.specs.File.IsAtRest ((states p).file q)) (sym at) quiet;
       unrecorded = subst (λ (s : Stage). NoRecordYet s d (cells_of states)) (sym at) none;
       working = subst (λ (s : Stage). WorkIs s d states) (sym at) work;
     } in
     leads_up first d programs states events' (ap is_up at) l
+
+pub serves : (first : Machine) (c : Core) (programs : List (List Step)) (states : ℕ → DeviceState) (events events' : List Event) (e : Event) (p : Phase) (o : Option DataId) (ranks : List Seat)
+    → c.stage ≡ stage.Serving → length ranks ≡ length c.ranks → ((m : Manifest) → c.opened ≡ Some m → p ≡ phase.Output) → IsLed first c programs states events
+    → StepsTo (setup_of c) (running (contents_of (cells_of states) c) c) e (running (contents_of (cells_of states) c) (served c p o ranks))
+    → IsOfProgram programs e → is_stop e ≡ false → events' ≡ events ++ e ∷ [] → Leads first (served c p o ranks) programs states events'
+serves first c programs states events events' e p o ranks = turns first c programs states events events' e p o c.needs c.reading ranks

@@ -25,9 +25,9 @@ use Rattle.site_core.specs.declared.turn.Turn.{Turn}
 use Rattle.site_core.specs.declared.turn.Turn.TheVariants as turn
 use Rattle.site_core.specs.declared.error.SiteError.{SiteError}
 use Rattle.site_core.specs.declared.site.Site.{Site}
-use Rattle.site_core.specs.Follows.{Each, Stays, TellsBy, IsCaused, IsCarried, IsRefusedFor, IsEndedFor, IsOfWorker, Follows, Keeps}
+use Rattle.site_core.specs.Follows.{Each, Stays, TellsBy, carried, IsCaused, IsCarried, IsRefusedFor, IsEndedFor, IsOfWorker, Follows, Keeps}
 
-pub tells_one : {D : Type 0} (who : Event → Type 0) (state : D → DeviceState) (old new : Site D) (e : Event) → new.history.events ≡ old.history.events ++ e ∷ [] → who e → IsCaused (states_of state old.bay) (states_of state new.bay) old.core.refusal e → TellsBy who state old new
+pub tells_one : {D : Type 0} (who : Event → Type 0) (state : D → DeviceState) (old new : Site D) (e : Event) → new.history.events ≡ old.history.events ++ e ∷ [] → who e → IsCaused (states_of state old.bay) (states_of state new.bay) (carried old.core) e → TellsBy who state old new
 tells_one who state old new e is own caused = record { told = e ∷ []; few = omega arith; is = is; own = (own, tt); caused = (caused, tt) }
 
 -- a turn that moved may have changed all
@@ -36,14 +36,14 @@ moved_stays old new (Ok t) is = subst (λ (x : Turn). Stays x old new) (sym is) 
 moved_stays old new (Err e) is = tt
 
 -- what was told after a call that changed nothing
-pub told_across : {D : Type 0} (who : Event → Type 0) (state : D → DeviceState) (old mid new : Site D) → mid.history.events ≡ old.history.events → mid.core.refusal ≡ old.core.refusal → states_of state mid.bay ≡ states_of state old.bay → TellsBy who state mid new → TellsBy who state old new
-told_across who state old mid new events carried same t = record {
+pub told_across : {D : Type 0} (who : Event → Type 0) (state : D → DeviceState) (old mid new : Site D) → mid.history.events ≡ old.history.events → carried mid.core ≡ carried old.core → states_of state mid.bay ≡ states_of state old.bay → TellsBy who state mid new → TellsBy who state old new
+told_across who state old mid new events carries same t = record {
   told = t.told;
   few = t.few;
   is = t.is ∙ ap (λ (es : List Event). es ++ t.told) events;
   own = t.own;
-  caused = subst (λ (st : ℕ → DeviceState). Each (IsCaused st (states_of state new.bay) old.core.refusal) t.told) same
-      (subst (λ (o : Option Refusal). Each (IsCaused (states_of state mid.bay) (states_of state new.bay) o) t.told) carried t.caused);
+  caused = subst (λ (st : ℕ → DeviceState). Each (IsCaused st (states_of state new.bay) (carried old.core)) t.told) same
+      (subst (λ (o : Option Refusal). Each (IsCaused (states_of state mid.bay) (states_of state new.bay) o) t.told) carries t.caused);
 }
 
 -- an answer that is no fault needs no cause

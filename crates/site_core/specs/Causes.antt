@@ -1,5 +1,5 @@
 -- Why a site refuses.
-use Rattle.std.specs.Prelude.{◌≡◌, ◌⊎◌, ◌<◌, ◌≤◌, ◌+◌, ℕ, Bool, true, false, List, [], length, codes, Result, Err, Option, None, Some}
+use Rattle.std.specs.Prelude.{◌≡◌, ◌≢◌, ◌⊎◌, ◌<◌, ◌≤◌, ◌+◌, ℕ, Bool, true, false, List, [], length, codes, Result, Err, Option, None, Some}
 use Rattle.scr_base.specs.declared.answers.Refusal.{Refusal}
 use Rattle.scr_base.specs.declared.answers.Refusal.TheVariants as refusal
 use Rattle.scr_base.specs.Causes.{Rose}
@@ -21,10 +21,11 @@ use Rattle.ckpt_model.specs.declared.event.StopCause.TheVariants as stops
 use Rattle.site_core.specs.declared.error.Trouble.{Trouble}
 use Rattle.site_core.specs.declared.error.Trouble.TheVariants as error
 
--- the device's count of faults rose to this
+-- the device's count of faults rose to this, and no other's changed
 pub record IsFault (old new : ℕ → DeviceState) (node count : ℕ) : Type 0 where
   pub now : count ≡ (new node).faults
   pub rose : Rose (old node).faults count
+  pub others : (place : ℕ) → place ≢ node → (new place).faults ≡ (old place).faults
 
 -- no device's count of faults changed
 abbrev pub IsCalm : (ℕ → DeviceState) → (ℕ → DeviceState) → Type 0

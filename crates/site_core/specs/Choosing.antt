@@ -1,10 +1,10 @@
 -- What a run's memory answers of the datasets in cache.
-use Rattle.std.specs.Prelude.{ℕ, ◌+◌, ◌&&◌, not, Bool, true, false, nat_lt, nat_le, List, length, fold, find, bytes_eq, Option, None, Some, is_some, is_none, option_map, option_and_then, if◌then◌else◌, [], ◌∷◌, ◌≤◌, ◌<◌}
+use Rattle.std.specs.Prelude.{ℕ, ◌+◌, ◌%◌, ◌==◌, ◌&&◌, ◌||◌, not, Bool, true, false, nat_lt, nat_le, List, length, fold, find, bytes_eq, Option, None, Some, is_some, is_none, option_map, option_and_then, if◌then◌else◌, [], ◌∷◌, ◌≤◌, ◌<◌}
 use Rattle.std.specs.List.{list_all, list_any}
 use Rattle.scr_base.specs.Same.{same_id}
 use Rattle.scr_base.specs.declared.shape.DataId.{DataId}
 use Rattle.scr_base.specs.Bytes.{bytes_for}
-use Rattle.scr_base.specs.Calls.{or_else, refuse_if, has_bad_name, allows, is_output, is_restart}
+use Rattle.scr_base.specs.Calls.{or_else, refuse_if, has_bad_name, allows, is_output, is_restart, asks_time}
 use Rattle.scr_base.specs.declared.answers.Phase.{Phase}
 use Rattle.scr_base.specs.declared.answers.Phase.TheVariants as phase
 use Rattle.scr_base.specs.declared.answers.Refusal.{Refusal}
@@ -15,7 +15,12 @@ use Rattle.filemap.specs.Rows.{is_routed}
 use Rattle.filemap.specs.Maps.{rows_of}
 use Rattle.filemap.specs.declared.rows.FileRow.{FileRow}
 use Rattle.round_core.specs.Seats.{judged_of, is_complete, first_call, seat_is_valid}
-use Rattle.ckpt_model.specs.Dataset.{is_checkpoint_flag}
+use Rattle.ckpt_model.specs.Dataset.{is_checkpoint_flag, is_output_flag}
+use Rattle.halt_file.specs.Conditions.{conditions}
+use Rattle.scr_base.specs.Halt.{halt_reason}
+use Rattle.scr_base.specs.declared.shape.Config.{Config}
+use Rattle.site_core.specs.declared.core_state.Stage.{Stage}
+use Rattle.site_core.specs.declared.core_state.Stage.TheVariants as stage
 use Rattle.site_core.specs.declared.cache.Cached.{Cached}
 use Rattle.site_core.specs.declared.cache.Manifest.{Manifest}
 use Rattle.site_core.specs.declared.cache.Mark.{Mark}
@@ -86,6 +91,32 @@ is_to_save c = completes c && list_all seat_is_valid c.ranks
 -- some rank doesn't: it is to be removed
 abbrev pub is_to_drop : Core → Bool
 is_to_drop c = completes c && not (list_all seat_is_valid c.ranks)
+
+-- the round is complete, nothing speaks against it, and it needs a reading of the clock that isn't there
+abbrev pub asks_with : Core → Option Step → Bool
+asks_with c None = false
+asks_with c (Some call) = asks_time call && is_none (verdict_of c call)
+
+abbrev pub is_serving : Stage → Bool
+is_serving stage.Serving = true
+is_serving _ = false
+
+abbrev pub wants_reading : Core → Bool
+wants_reading c = is_serving c.stage && is_complete c.ranks && is_none c.reading && asks_with c (first_call c.ranks)
+
+-- a checkpoint is wanted: it is the n-th question of the run, or the job is to stop
+abbrev pub is_needed : Core → ℕ → ℕ → Bool
+is_needed c needs now = needs % c.config.interval == 0 || is_some (halt_reason (conditions c.halt) now c.settled)
+
+-- the dataset is settled, and is to be flushed
+abbrev pub is_due : Config → Cached → Bool
+is_due config set =
+    is_at_rest set.mark
+    && (is_output_flag set.manifest.desc.flags || is_checkpoint_flag set.manifest.desc.flags && not (config.flush == 0) && set.manifest.desc.which.id % config.flush == 0)
+
+-- the smallest identity that is due
+abbrev pub due_in : Core → Option DataId
+due_in c = option_map (λ set. set.manifest.desc.which) (find (is_due c.config) c.kept)
 
 -- ## A rank's own steps
 

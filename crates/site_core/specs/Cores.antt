@@ -37,6 +37,8 @@ pub record IsNewCore (shape : Shape) (config : Config) (c : Core) : Type 0 where
   pub opened : c.opened ≡ None
   pub ranks : c.ranks ≡ replicate (shape.nodes * shape.ranks) fresh_seat
   pub settled : c.settled ≡ 0
+  pub needs : c.needs ≡ 0
+  pub reading : c.reading ≡ None
 
 -- what doesn't change in a run is the same
 pub record IsSameCore (old new : Core) : Type 0 where
@@ -108,7 +110,7 @@ next_drop_core c node = record c { stage = stage.Dropping drop.File node; remova
 
 -- the open dataset is gone, and the run serves again
 abbrev pub closed_core : Core → Core
-closed_core c = record c { stage = stage.Serving; opened = None; phase = phase.Idle; refusal = None }
+closed_core c = record c { stage = stage.Serving; opened = None; phase = phase.Idle; refusal = None; reading = None }
 
 -- what the round is answered whose dataset is gone
 abbrev pub dropped_answer : Option Refusal → Reply

@@ -1,7 +1,7 @@
 -- A site's history is a run of the machine to a state for which its memory and its devices stand.
-use Rattle.std.specs.Prelude.{◌≡◌, ◌≤◌, ◌<◌, ◌+◌, ◌^◌, ℕ, true, false, List, [], ◌∷◌, ◌++◌, length, map, slice_get, slice_set, Option, Some, None}
+use Rattle.std.specs.Prelude.{◌≡◌, ◌⊎◌, ◌≤◌, ◌<◌, ◌+◌, ◌^◌, ℕ, true, false, List, [], ◌∷◌, ◌++◌, length, map, slice_get, slice_set, Option, Some, None}
 use Rattle.scr_base.specs.declared.actor.Actor.{Actor}
-use Rattle.scr_base.specs.declared.actor.Actor.TheVariants.{Rank}
+use Rattle.scr_base.specs.declared.actor.Actor.TheVariants.{Rank, Encoder}
 use Rattle.scr_base.specs.declared.answers.Phase.{Phase}
 use Rattle.scr_base.specs.declared.answers.Phase.TheVariants.{Output}
 use Rattle.scr_base.specs.declared.answers.Reply.{Reply}
@@ -29,12 +29,13 @@ use Rattle.site_core.specs.declared.core_state.Work.{Work}
 use Rattle.scr_base.specs.declared.answers.Refusal.TheVariants as refusal
 use Rattle.ckpt_model.specs.declared.event.StopCause.{StopCause}
 use Rattle.ckpt_model.specs.declared.event.StopCause.TheVariants as stops
-use Rattle.site_core.specs.declared.core_state.Stage.TheVariants.{Cut}
+use Rattle.site_core.specs.declared.core_state.Stage.{Stage}
+use Rattle.site_core.specs.declared.core_state.Stage.TheVariants.{Cut, Dropping, Dropped}
 use Rattle.site_core.specs.declared.turn.Turn.{Turn}
 use Rattle.site_core.specs.declared.turn.Turn.TheVariants as turn
 use Rattle.site_core.specs.Waiting.{is_over}
-use Rattle.site_core.specs.Causes.{IsFault, IsFull}
-use Rattle.site_core.specs.Shown.{Contents, running, setup_of, served}
+use Rattle.site_core.specs.Causes.{IsFault, IsFull, IsCalm}
+use Rattle.site_core.specs.Shown.{Contents, running, setup_of, served, decided}
 use Rattle.site_core.specs.Choosing.{verdict_of}
 use Rattle.site_core.specs.Calls.{TellsAll}
 use Rattle.site_core.specs.Stored.{cells_of, contents_of}
@@ -104,6 +105,7 @@ IsOfWorker (event.Call rank number call) = ⊥
 IsOfWorker (event.Reply rank number answer) = ⊥
 IsOfWorker (event.Local rank number call answer) = ⊥
 IsOfWorker (event.Decided kind answer) = ⊥
+IsOfWorker (event.Time now) = ⊥
 IsOfWorker (event.Stop cause) = IsWorkersEnd cause
 IsOfWorker _ = Unit {0}
 
@@ -137,13 +139,65 @@ IsCaused old new carried (event.Decided kind answer) = IsCarried carried answer
 IsCaused old new carried (event.Stop cause) = IsEndedFor old new cause
 IsCaused old new carried _ = Unit {0}
 
+-- the refusal that a round carries while its dataset is being removed
+abbrev pub carried_at : Stage → Option Refusal → Option Refusal
+carried_at (Dropping drop node) refusal = refusal
+carried_at Dropped refusal = refusal
+carried_at _ refusal = None
+
+abbrev pub carried : Core → Option Refusal
+carried c = carried_at c.stage c.refusal
+
 -- at most one event was told, one that this actor may tell, and it has its cause
 pub record TellsBy {D : Type 0} (who : Event → Type 0) (state : D → DeviceState) (old new : Site D) : Type 0 where
   pub told : List Event
   pub few : length told ≤ 1
   pub is : new.history.events ≡ old.history.events ++ told
   pub own : Each who told
-  pub caused : Each (IsCaused (states_of state old.bay) (states_of state new.bay) old.core.refusal) told
+  pub caused : Each (IsCaused (states_of state old.bay) (states_of state new.bay) (carried old.core)) told
+
+-- ## What becomes of faults
+
+-- the event tells of this fault
+abbrev pub IsOfFault : ℕ → ℕ → Event → Type 0
+IsOfFault node count (event.Local rank number call answer) = answer ≡ replies.Refused (refusal.Device node count)
+IsOfFault node count (event.Stop cause) = cause ≡ stops.Device node count
+IsOfFault node count _ = ⊥
+
+-- a device's count of faults rose, no other's changed, and the one event of the turn tells it
+pub record TellsFault (old new : ℕ → DeviceState) (before after : List Event) : Type 0 where
+  pub node : ℕ
+  pub count : ℕ
+  pub fault : IsFault old new node count
+  pub told : Event
+  pub is : after ≡ before ++ told ∷ []
+  pub tells : IsOfFault node count told
+
+-- a round carries no refusal that it didn't carry before
+abbrev pub CarriesNoMore : Core → Core → Type 0
+CarriesNoMore old new = (refusal : Refusal) → carried new ≡ Some refusal → carried old ≡ Some refusal
+
+-- no count of faults changed but one that the turn tells, and no round comes to carry a refusal
+pub record TellsFaults {D : Type 0} (state : D → DeviceState) (old new : Site D) : Type 0 where
+  pub faults : IsCalm (states_of state old.bay) (states_of state new.bay) ⊎ TellsFault (states_of state old.bay) (states_of state new.bay) old.history.events new.history.events
+  pub carries : CarriesNoMore old.core new.core
+
+-- a round that carried none comes to carry a refusal by a device, which has its cause in this turn
+pub record TakesUp {D : Type 0} (state : D → DeviceState) (old new : Site D) : Type 0 where
+  pub refusal : Refusal
+  pub none : carried old.core ≡ None
+  pub now : carried new.core ≡ Some refusal
+  pub of_device : is_fault (replies.Refused refusal) ≡ true
+  pub cause : IsRefusedFor (states_of state old.bay) (states_of state new.bay) (replies.Refused refusal)
+
+-- each change of a count of faults is told or carried
+abbrev pub TellsOrCarries : {D : Type 0} → (D → DeviceState) → Site D → Site D → Type 0
+TellsOrCarries state old new = TellsFaults state old new ⊎ TakesUp state old new
+
+-- the encoder alone lets a round carry one
+abbrev pub AccountsBy : {D : Type 0} → Actor → (D → DeviceState) → Site D → Site D → Type 0
+AccountsBy Encoder state old new = TellsOrCarries state old new
+AccountsBy _ state old new = TellsFaults state old new
 
 -- a turn that didn't move left all as it was
 abbrev pub Stays : {D : Type 0} → Turn → Site D → Site D → Type 0
@@ -156,6 +210,14 @@ abbrev pub Counts : Turn → ℕ → ℕ → Type 0
 Counts turn.Moved old new = new ≡ old + 1
 Counts (turn.NotYet why) old new = new ≡ old
 Counts turn.Ended old new = new ≡ old
+
+-- the round was told the time, and nothing else changed
+pub record IsTold {D : Type 0} (now : ℕ) (old new : Site D) : Type 0 where
+  pub events : new.history.events ≡ old.history.events ++ event.Time now ∷ []
+  pub core : new.core ≡ record old.core { reading = Some now }
+  pub programs : new.programs ≡ old.programs
+  pub bay : new.bay ≡ old.bay
+  pub moves : new.moves ≡ old.moves + 1
 
 -- a run that wasn't over was ended from outside, and no device was touched
 pub record IsHalted {D : Type 0} (old new : Site D) : Type 0 where
@@ -188,11 +250,11 @@ pub record IsClearRound (c : Core) (call : Step) : Type 0 where
   pub clear : verdict_of c call ≡ None
 
 -- the round may be decided so: where the site stands for a state, that is a step of the machine, and a dataset stays open in the phase Output alone
-abbrev pub MayDecide : {D : Type 0} → (D → DeviceState) → Site D → Kind → Reply → Phase → Option DataId → Type 0
-MayDecide state site kind answer phase offer =
+abbrev pub MayDecide : {D : Type 0} → (D → DeviceState) → Site D → Kind → Reply → Phase → Option DataId → ℕ → Type 0
+MayDecide state site kind answer phase offer needs =
     (first : Machine) → Follows state first site
     → ((m : Manifest) → site.core.opened ≡ Some m → phase ≡ Output)
-    × ((bytes : Contents) → StepsTo (setup_of site.core) (running bytes site.core) (event.Decided kind answer) (running bytes (served site.core phase offer (map (owed answer) site.core.ranks))))
+    × ((bytes : Contents) → StepsTo (setup_of site.core) (running bytes site.core) (event.Decided kind answer) (running bytes (decided site.core phase offer needs (map (owed answer) site.core.ranks))))
 
 -- every rank has called, rank 0 this, and the round is refused so
 pub record IsRefusedRound (c : Core) (call : Step) (refusal : Refusal) : Type 0 where

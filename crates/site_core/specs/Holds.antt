@@ -1,7 +1,7 @@
 -- What devices stand for between two runs, and what holds between two moves of a run.
 use Rattle.std.specs.Prelude.{◌≡◌, ◌≢◌, ◌⊎◌, ◌<◌, ◌≤◌, ◌+◌, ◌*◌, ◌^◌, nat_lt, nat_le, not, ◌==◌, ℕ, Bool, true, false, IsTrue, List, [], ◌∷◌, ◌++◌, map, replicate, Option, None, Some, slice_get, codes}
 use Rattle.std.specs.List.{list_all, list_any}
-use Rattle.scr_base.specs.Halt.{no_halt}
+use Rattle.halt_file.specs.Conditions.{conditions}
 use Rattle.scr_base.specs.Sets.{numbers_below}
 use Rattle.scr_base.specs.declared.answers.Phase.TheVariants as phase
 use Rattle.scr_base.specs.declared.content.Step.{Step}
@@ -39,7 +39,7 @@ use Rattle.site_core.specs.declared.core_state.Work.{Work}
 use Rattle.site_core.specs.declared.core_state.Work.TheVariants as work
 use Rattle.site_core.specs.Shown.{running, stopped, begun, setup_of, kept_of, mends}
 use Rattle.site_core.specs.Choosing.{verdict_of, AscendFrom, seals, is_at_rest, is_being_sealed}
-use Rattle.site_core.specs.Stored.{IsKnown, IsAmong, Cells, cells_of, contents_of, contents_in, file_name, FilesStand, RecordsStand, RecordIs, NoOtherRecords, NoFutureFiles, IsOfSite, IsWell, FilesHold, stored_run, run_number}
+use Rattle.site_core.specs.Stored.{IsKnown, IsAmong, Cells, cells_of, contents_of, contents_in, file_name, FilesStand, RecordsStand, RecordIs, NoOtherRecords, NoFutureFiles, IsOfSite, IsWell, FilesHold, stored_run, stored_halt, run_number}
 
 -- ## Between two runs
 
@@ -73,7 +73,7 @@ pub record StandsFor (s : Setup) (states : ℕ → DeviceState) (m : Machine) : 
   pub between : m.stage ≡ Place.Between
   pub kept : m.kept ≡ map (kept_of s (contents_in (cells_of states) (numbers_below s.shape.nodes) s.shape.ranks) (numbers_below s.shape.nodes)) (map settled_set sets)
   pub index : m.index ≡ []
-  pub halt : m.halt ≡ no_halt
+  pub halt : m.halt ≡ stored_halt (cells_of states)
   pub mark_is : m.mark ≡ None
 
 -- ## Within a run
@@ -86,6 +86,8 @@ pub record IsFresh (c : Core) : Type 0 where
   pub opened : c.opened ≡ None
   pub ranks : c.ranks ≡ replicate (c.shape.nodes * c.shape.ranks) fresh_seat
   pub settled : c.settled ≡ 0
+  pub needs : c.needs ≡ 0
+  pub reading : c.reading ≡ None
 
 -- nothing was done
 pub record IsBegun (c : Core) (states : ℕ → DeviceState) (m : Machine) : Type 0 where
@@ -110,7 +112,8 @@ pub record IsStoring (c : Core) (states : ℕ → DeviceState) (m : Machine) : T
   pub between : m.stage ≡ Place.Between
   pub kept : m.kept ≡ map (kept_of (setup_of c) (contents_of (cells_of states) c) c.places) (map settled_set sets)
   pub index : m.index ≡ []
-  pub halt : m.halt ≡ no_halt
+  pub halt : m.halt ≡ conditions c.halt
+  pub halted : stored_halt (cells_of states) ≡ conditions c.halt
   pub mark_is : m.mark ≡ None
   pub run : c.run ≡ m.run + 1
   pub fits : c.run < 2 ^ 32
@@ -122,6 +125,7 @@ pub record IsLooking (c : Core) (states : ℕ → DeviceState) (m : Machine) : T
   pub next : ℕ
   pub quiet : IsQuiet states
   pub store : StoreHolds (setup_of c) (cells_of states) c.run sets
+  pub halted : stored_halt (cells_of states) ≡ conditions c.halt
   pub runs : (x : Manifest) → IsOneOf sets x → x.desc.which.run < c.run
   pub future : NoFutureFiles (cells_of states) c.run 0
   pub is : m ≡ begun c next (map (kept_of (setup_of c) (contents_of (cells_of states) c) c.places) (map settled_set sets))
@@ -250,6 +254,7 @@ pub record IsLeavingAt (gone settled : ℕ → Bool) (c : Core) (states : ℕ �
   pub round : IsDropFor c
   pub well : IsWell c
   pub stored : stored_run (cells_of states) ≡ c.run
+  pub halted : stored_halt (cells_of states) ≡ conditions c.halt
   pub files : (x : Manifest) → IsAmong c.kept x → FilesStand (cells_of states) c.places c.shape.ranks x
   pub records : (i : ℕ) (x : Cached) → slice_get c.kept i ≡ Some x → RecordsStand (cells_of states) c.places x.manifest
   pub others : NoOtherRecords (IsKnown c) (cells_of states) c.places

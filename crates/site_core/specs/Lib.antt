@@ -2,6 +2,7 @@ pub mod Shown
 pub mod Choosing
 pub mod Waiting
 pub mod Numbers
+pub mod Readings
 pub mod Looks
 pub mod Removals
 pub mod Cores
@@ -11,3 +12,5 @@ pub mod Calls
 pub mod Causes
 pub mod Follows
 pub mod Asking
+pub mod Ahead
+pub mod Order

@@ -4,6 +4,9 @@ use Rattle.scr_base.specs.declared.change.Change.{Change}
 use Rattle.node_device.specs.DeviceState.{DeviceState, IsUnchanged}
 use Rattle.node_device.specs.Answers.{HasDeviceCause, NamesAnswers}
 use Rattle.node_device.specs.declared.device.DevError.{DevError}
+use Rattle.halt_file.specs.Conditions.{conditions}
+use Rattle.halt_file.specs.Stores.{halt_now}
+use Rattle.halt_file.specs.declared.halt.Halt.{Halt}
 use Rattle.gated_record.specs.Pair.{pair_now}
 use Rattle.gated_record.specs.PairStages.{IsStageOf}
 use Rattle.gated_record.specs.declared.pair.PairValue.{PairValue}
@@ -27,5 +30,12 @@ way_of run = record { want = record { version = run; body = [] }; changes = None
 pub record LoadsNumber (result : Result (Option PairValue) DevError) (old new : DeviceState) : Type 0 where
   pub answer : NamesAnswers result
   pub value : old.tells ≡ Rattle.std.specs.Prelude.true → IfOk result (λ value. value ≡ pair_now (codes "run") old)
+  pub same : IsUnchanged old new
+  pub cause : HasDeviceCause old new result
+
+-- the conditions of the pair `halt` are read
+pub record LoadsHalt (result : Result Halt DevError) (old new : DeviceState) : Type 0 where
+  pub answer : NamesAnswers result
+  pub value : old.tells ≡ Rattle.std.specs.Prelude.true → IfOk result (λ halt. conditions halt ≡ halt_now old)
   pub same : IsUnchanged old new
   pub cause : HasDeviceCause old new result

@@ -4,7 +4,7 @@ use Rattle.scr_base.specs.Same.{same_id}
 use Rattle.scr_base.specs.declared.answers.Phase.{Phase}
 use Rattle.scr_base.specs.declared.answers.Phase.TheVariants as phase
 use Rattle.ckpt_model.specs.declared.event.FoundRow.{FoundRow}
-use Rattle.scr_base.specs.Halt.{no_halt}
+use Rattle.halt_file.specs.Conditions.{conditions}
 use Rattle.scr_base.specs.declared.shape.DataId.{DataId}
 use Rattle.filemap.specs.declared.rows.FileRow.{FileRow}
 use Rattle.dataset_desc.specs.declared.desc.Desc.{Desc}
@@ -94,17 +94,21 @@ running bytes c = record {
   flushing = None;
   fetching = None;
   given_up = [];
-  needs = 0;
+  needs = c.needs;
   done = c.settled;
-  reading = None;
+  reading = c.reading;
   ranks = map rank_of c.ranks;
-  halt = no_halt;
+  halt = conditions c.halt;
   mark = None;
 }
 
 -- the ranks, the phase and the offer are others
 abbrev pub served : Core → Phase → Option DataId → List Seat → Core
 served c p o ranks = record c { phase = p; offer = o; ranks = ranks }
+
+-- a round is decided, the one that so many Need rounds of the run end with; the clock's reading was for that round alone
+abbrev pub decided : Core → Phase → Option DataId → ℕ → List Seat → Core
+decided c p o needs ranks = record c { phase = p; offer = o; needs = needs; reading = None; ranks = ranks }
 
 -- recovery has yet to look after it
 abbrev pub mends : Cached → Bool
@@ -141,7 +145,7 @@ begun c next kept = record {
   done = 0;
   reading = None;
   ranks = replicate (c.shape.nodes * c.shape.ranks) fresh_rank;
-  halt = no_halt;
+  halt = conditions c.halt;
   mark = None;
 }
 

@@ -3,6 +3,9 @@ use Rattle.std.specs.Prelude.{nat_lt, ◌&&◌, if◌then◌else◌, ◌≡◌, 
 use Rattle.scr_base.specs.Sets.{numbers_below}
 use Rattle.scr_base.specs.declared.answers.Phase.TheVariants as phase
 use Rattle.scr_base.specs.Words.{is_name}
+use Rattle.scr_base.specs.Halt.{Halt}
+use Rattle.halt_file.specs.Conditions.{conditions}
+use Rattle.halt_file.specs.Stores.{halt_in}
 use Rattle.scr_base.specs.declared.shape.DataId.{DataId}
 use Rattle.scr_base.specs.declared.shape.Shape.{Shape}
 use Rattle.node_device.specs.File.{bytes_of}
@@ -104,6 +107,10 @@ run_number (Some value) = value.version
 abbrev pub stored_run : Cells → ℕ
 stored_run cells = run_number (pair_value (codes "run") (cells 32))
 
+-- the conditions on which jobs are to stop
+abbrev pub stored_halt : Cells → Halt
+stored_halt cells = halt_in (pair_value (codes "halt") (cells 32))
+
 -- a dataset of this site, by a run so far
 pub record IsOfSite (shape : Shape) (run : ℕ) (m : Manifest) : Type 0 where
   pub named : IsTrue (is_name m.desc.name)
@@ -127,6 +134,7 @@ pub record IsWell (c : Core) : Type 0 where
 -- the files of a run that is up, by what reads give; of what is being sealed the records are spoken of elsewhere
 pub record FilesHold (c : Core) (cells : Cells) : Type 0 where
   pub stored : stored_run cells ≡ c.run
+  pub halted : stored_halt cells ≡ conditions c.halt
   pub files : (m : Manifest) → IsKnown c m → FilesStand cells c.places c.shape.ranks m
   pub records : (i : ℕ) (x : Cached) → slice_get c.kept i ≡ Some x → is_being_sealed x.mark ≡ false → RecordsStand cells c.places x.manifest
   pub others : NoOtherRecords (IsKnown c) cells c.places

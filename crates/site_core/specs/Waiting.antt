@@ -4,7 +4,7 @@ use Rattle.std.specs.List.{list_all}
 use Rattle.scr_base.specs.declared.actor.Actor.{Actor}
 use Rattle.scr_base.specs.declared.actor.Actor.TheVariants as actor
 use Rattle.scr_base.specs.declared.content.Step.{Step}
-use Rattle.scr_base.specs.declared.content.Step.TheVariants.{Complete}
+use Rattle.scr_base.specs.declared.content.Step.TheVariants.{Complete, Need, Exit, Finalize}
 use Rattle.round_core.specs.Seats.{is_missing, first_call, seat_is_valid}
 use Rattle.round_core.specs.declared.seat.Seat.{Seat}
 use Rattle.round_core.specs.declared.seat.Doing.{Doing}
@@ -18,7 +18,8 @@ use Rattle.site_core.specs.declared.core_state.Work.TheVariants as work
 use Rattle.site_core.specs.declared.turn.Turn.{Turn}
 use Rattle.site_core.specs.declared.turn.Turn.TheVariants.{Moved, NotYet, Ended}
 use Rattle.site_core.specs.declared.turn.Why.TheVariants as why
-use Rattle.site_core.specs.Choosing.{verdict_of, is_to_save, is_to_drop}
+use Rattle.scr_base.specs.declared.shape.DataId.{DataId}
+use Rattle.site_core.specs.Choosing.{verdict_of, is_to_save, is_to_drop, due_in}
 
 -- the run is over
 abbrev pub is_over : Stage → Bool
@@ -42,9 +43,22 @@ abbrev pub complete_turn : Core → Option Manifest → Turn
 complete_turn c None = Moved
 complete_turn c (Some m) = if list_all seat_is_valid c.ranks then NotYet (why.Encode (changes_left work.Record 0 c.shape.nodes)) else NotYet (why.Evict m.desc.which.id)
 
+-- a clear Need or Exit waits for the clock's reading
+abbrev pub clock_turn : Option ℕ → Turn
+clock_turn None = NotYet why.Clock
+clock_turn (Some now) = Moved
+
+-- a clear Finalize waits until nothing is left to be flushed
+abbrev pub flush_turn : Option DataId → Turn
+flush_turn None = Moved
+flush_turn (Some which) = NotYet (why.Flush which.id)
+
 -- a complete round that nothing speaks against
 abbrev pub clear_turn : Core → Option Step → Turn
 clear_turn c (Some (Complete valid)) = complete_turn c c.opened
+clear_turn c (Some Need) = clock_turn c.reading
+clear_turn c (Some Exit) = clock_turn c.reading
+clear_turn c (Some Finalize) = flush_turn (due_in c)
 clear_turn c _ = Moved
 
 abbrev pub is_refused_round : Core → Option Step → Bool

@@ -3,13 +3,14 @@ ghost use Rattle.std.specs.Prelude.{◌≡◌, ◌≤◌, ◌<◌, ◌*◌, true
 ghost use Rattle.node_device.specs.Rack.{states_of, OnlyAt};
 ghost use Rattle.member_store.specs.Calls.{Drops, Scans, WritesPart, ReadsPart, WritesMember, SetsGate};
 ghost use Rattle.gated_record.specs.PairSteps.{StepsPair};
-ghost use Rattle.site_core.specs.Numbers.{LoadsNumber};
+ghost use Rattle.site_core.specs.Numbers.{LoadsNumber, LoadsHalt};
 
 use crate::removal::Removal;
 use crate::storing::Storing;
 use dataset_desc::Desc;
 use filemap::Filemap;
 use gated_record::{PairValue, pair_load};
+use halt_file::Halt;
 use member_store::{Member, MemberGate, Part, read_part, scan, set_gate, write_member, write_part};
 use node_device::{Bay, DevError, Device};
 use scr_base::{DataId, Shape};
@@ -23,6 +24,13 @@ pub(crate) fn load_number<D: Device>(
     ensures { OnlyAt 32 (LoadsNumber result) (states_of D.state bay.old) (states_of D.state bay.new) }
 {
     pair_load(alloc, bay.device(32), b"run")
+}
+
+/// The conditions that the pair `halt` tells.
+pub(crate) fn load_halt<D: Device>(alloc: Global, bay: &mut Bay<D>) -> Result<Halt, DevError>
+    ensures { OnlyAt 32 (LoadsHalt result) (states_of D.state bay.old) (states_of D.state bay.new) }
+{
+    halt_file::load(alloc, bay.device(32))
 }
 
 /// One change, at most, that brings a run's number to the prefix.

@@ -9,7 +9,7 @@ use ckpt_model::FoundRow;
 use dataset_desc::Desc;
 use filemap::Filemap;
 use member_store::Member;
-use scr_base::{Bytes, DataId, Flags, Items, Memory};
+use scr_base::{Bytes, Config, DataId, Flags, Items, Memory};
 use std::alloc::Global;
 use std::marker::Model;
 
@@ -55,7 +55,8 @@ impl Model for Cache {
 
 impl Cached {
     ghost use Rattle.std.specs.Prelude.{◌≡◌};
-    ghost use Rattle.ckpt_model.specs.Dataset.{is_checkpoint_flag};
+    ghost use Rattle.ckpt_model.specs.Dataset.{is_checkpoint_flag, is_output_flag};
+    ghost use Rattle.site_core.specs.Choosing.{is_due};
 
     /// Whether it is a checkpoint.
     pub(crate) fn is_checkpoint(&self) -> bool
@@ -65,6 +66,26 @@ impl Cached {
             Flags::Ckpt | Flags::Both => true,
             Flags::Output => false,
         }
+    }
+
+    /// Whether it is an output dataset.
+    fn is_output(&self) -> bool
+        ensures { result ≡ is_output_flag self.now.manifest.desc.flags }
+    {
+        match self.manifest.desc.flags {
+            Flags::Output | Flags::Both => true,
+            Flags::Ckpt => false,
+        }
+    }
+
+    /// Whether it is settled, and is to be flushed.
+    pub(crate) fn is_due(&self, config: Config) -> bool
+        ensures { result ≡ is_due config self.now }
+    {
+        let id = self.manifest.desc.which.id;
+        self.mark == Mark::Settled
+            && (self.is_output()
+                || self.is_checkpoint() && config.flush != 0 && id % config.flush == 0)
     }
 }
 

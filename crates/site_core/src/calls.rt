@@ -1,12 +1,14 @@
 // A rank's turn: it takes its next step, waits for a round, or takes its reply.
-ghost use Rattle.std.specs.Prelude.{◌≡◌, ◌+◌, ◌*◌, ◌<◌, ◌≤◌, ◌^◌, true, false, None, Some, length, map, IfOk, OnOk, OnErr};
+ghost use Rattle.std.specs.Prelude.{◌≡◌, ◌+◌, ◌*◌, ◌<◌, ◌≤◌, ◌^◌, true, false, None, Some, length, map, IfOk, OnOk, OnErr, [], slice_get, position, unwrap_or};
 ghost use Rattle.node_device.specs.Rack.{states_of};
 ghost use Rattle.scr_base.specs.declared.content.Step.TheVariants as step;
-ghost use Rattle.std.specs.Prelude.{[], slice_get, position, unwrap_or};
 ghost use Rattle.round_core.specs.declared.seat.Seat.{Seat};
 ghost use Rattle.round_core.specs.Seats.{next_number, is_missing};
 ghost use Rattle.site_core.specs.Waiting.{changes_left, rank_turn, serving_turn, round_turn, free_turn};
-ghost use Rattle.site_core.specs.Follows.{Keeps, TellsBy, IsOfRank, IsOfRound, IsSameRun, Stays, IsFreeSeat, IsNextCall};
+ghost use Rattle.site_core.specs.Ahead.{Lowers};
+ghost use Rattle.site_core.specs.Order.{KeepsOrder};
+ghost use Rattle.site_core.specs.Follows.{Keeps, TellsBy, IsOfRank, IsOfRound, IsSameRun, Stays, IsFreeSeat, IsNextCall, TellsFaults};
+ghost use Rattle.site_core.specs.Causes.{IsCalm};
 
 use crate::core_state::{Stage, Work};
 use crate::error::SiteError;
@@ -23,8 +25,12 @@ impl<D: Device> Site<D> {
     pub(crate) fn rank(&mut self, rank: u8) -> Result<Turn, SiteError>
         requires rank { rank < length self.old.core.ranks }
         ensures run { OnOk result (Keeps D.state self.old self.new) }
+        ensures lowers { IfOk result (λ turn. Lowers turn self.old self.new) }
+        ensures order { OnOk result (KeepsOrder self.old self.new) }
         ensures told { OnOk result (TellsBy (IsOfRank rank) D.state self.old self.new) }
         ensures refused { OnErr result (self.new.history.events ≡ self.old.history.events) }
+        ensures calm { OnErr result (IsCalm (states_of D.state self.old.bay) (states_of D.state self.new.bay)) }
+        ensures accounted { OnOk result (TellsFaults D.state self.old self.new) }
         ensures fixed { IsSameRun self.old self.new }
         ensures still { IfOk result (λ turn. Stays turn self.old self.new) }
         ensures waits { IfOk result (λ turn. turn ≡ rank_turn self.old.core.stage self.old.core self.old.programs rank) }
@@ -51,8 +57,12 @@ impl<D: Device> Site<D> {
     fn serve(&mut self, rank: u8) -> Result<Turn, SiteError>
         requires stage { self.old.core.stage ≡ Stage.Serving }
         ensures run { OnOk result (Keeps D.state self.old self.new) }
+        ensures lowers { IfOk result (λ turn. Lowers turn self.old self.new) }
+        ensures order { OnOk result (KeepsOrder self.old self.new) }
         ensures told { OnOk result (TellsBy (IsOfRank rank) D.state self.old self.new) }
         ensures refused { OnErr result (self.new.history.events ≡ self.old.history.events) }
+        ensures calm { OnErr result (IsCalm (states_of D.state self.old.bay) (states_of D.state self.new.bay)) }
+        ensures accounted { OnOk result (TellsFaults D.state self.old self.new) }
         ensures fixed { IsSameRun self.old self.new }
         ensures still { IfOk result (λ turn. Stays turn self.old self.new) }
         ensures waits { IfOk result (λ turn. turn ≡ serving_turn self.old.core self.old.programs rank (slice_get self.old.core.ranks rank)) }
@@ -71,8 +81,12 @@ impl<D: Device> Site<D> {
     fn wait(&mut self) -> Result<Turn, SiteError>
         requires stage { self.old.core.stage ≡ Stage.Serving }
         ensures run { OnOk result (Keeps D.state self.old self.new) }
+        ensures lowers { IfOk result (λ turn. Lowers turn self.old self.new) }
+        ensures order { OnOk result (KeepsOrder self.old self.new) }
         ensures told { OnOk result (TellsBy IsOfRound D.state self.old self.new) }
         ensures refused { OnErr result (self.new.history.events ≡ self.old.history.events) }
+        ensures calm { OnErr result (IsCalm (states_of D.state self.old.bay) (states_of D.state self.new.bay)) }
+        ensures accounted { OnOk result (TellsFaults D.state self.old self.new) }
         ensures fixed { IsSameRun self.old self.new }
         ensures still { IfOk result (λ turn. Stays turn self.old self.new) }
         ensures waits { IfOk result (λ turn. turn ≡ round_turn self.old.core (position is_missing self.old.core.ranks)) }
@@ -89,8 +103,12 @@ impl<D: Device> Site<D> {
     fn reply(&mut self, rank: u8) -> Result<Turn, SiteError>
         requires stage { self.old.core.stage ≡ Stage.Serving }
         ensures run { OnOk result (Keeps D.state self.old self.new) }
+        ensures lowers { IfOk result (λ turn. Lowers turn self.old self.new) }
+        ensures order { OnOk result (KeepsOrder self.old self.new) }
         ensures told { OnOk result (TellsBy (IsOfRank rank) D.state self.old self.new) }
         ensures refused { OnErr result (self.new.history.events ≡ self.old.history.events) }
+        ensures calm { OnErr result (IsCalm (states_of D.state self.old.bay) (states_of D.state self.new.bay)) }
+        ensures accounted { OnOk result (TellsFaults D.state self.old self.new) }
         ensures fixed { IsSameRun self.old self.new }
         ensures still { IfOk result (λ turn. Stays turn self.old self.new) }
         ensures moved { IfOk result (λ turn. turn ≡ Turn.Moved) }
@@ -116,8 +134,12 @@ impl<D: Device> Site<D> {
         requires stage { self.old.core.stage ≡ Stage.Serving }
         requires free { IsFreeSeat self.old.core rank }
         ensures run { OnOk result (Keeps D.state self.old self.new) }
+        ensures lowers { IfOk result (λ turn. Lowers turn self.old self.new) }
+        ensures order { OnOk result (KeepsOrder self.old self.new) }
         ensures told { OnOk result (TellsBy (IsOfRank rank) D.state self.old self.new) }
         ensures refused { OnErr result (self.new.history.events ≡ self.old.history.events) }
+        ensures calm { OnErr result (IsCalm (states_of D.state self.old.bay) (states_of D.state self.new.bay)) }
+        ensures accounted { OnOk result (TellsFaults D.state self.old self.new) }
         ensures fixed { IsSameRun self.old self.new }
         ensures still { IfOk result (λ turn. Stays turn self.old self.new) }
         ensures waits { IfOk result (λ turn. (seat : Seat) → slice_get self.old.core.ranks rank ≡ Some seat → turn ≡ free_turn seat.ended (slice_get (unwrap_or (slice_get self.old.programs rank) []) seat.number)) }
@@ -147,8 +169,12 @@ impl<D: Device> Site<D> {
         requires stage { self.old.core.stage ≡ Stage.Serving }
         requires free { IsFreeSeat self.old.core rank }
         ensures run { OnOk result (Keeps D.state self.old self.new) }
+        ensures lowers { IfOk result (λ turn. Lowers turn self.old self.new) }
+        ensures order { OnOk result (KeepsOrder self.old self.new) }
         ensures told { OnOk result (TellsBy (IsOfRank rank) D.state self.old self.new) }
         ensures refused { OnErr result (self.new.history.events ≡ self.old.history.events) }
+        ensures calm { OnErr result (IsCalm (states_of D.state self.old.bay) (states_of D.state self.new.bay)) }
+        ensures accounted { OnOk result (TellsFaults D.state self.old self.new) }
         ensures fixed { IsSameRun self.old self.new }
         ensures still { IfOk result (λ turn. Stays turn self.old self.new) }
         ensures moved { IfOk result (λ turn. turn ≡ Turn.Moved) }
@@ -170,8 +196,12 @@ impl<D: Device> Site<D> {
         requires stage { self.old.core.stage ≡ Stage.Serving }
         requires next { IsNextCall self.old.programs self.old.core rank step }
         ensures run { OnOk result (Keeps D.state self.old self.new) }
+        ensures lowers { IfOk result (λ turn. Lowers turn self.old self.new) }
+        ensures order { OnOk result (KeepsOrder self.old self.new) }
         ensures told { OnOk result (TellsBy (IsOfRank rank) D.state self.old self.new) }
         ensures refused { OnErr result (self.new.history.events ≡ self.old.history.events) }
+        ensures calm { OnErr result (IsCalm (states_of D.state self.old.bay) (states_of D.state self.new.bay)) }
+        ensures accounted { OnOk result (TellsFaults D.state self.old self.new) }
         ensures fixed { IsSameRun self.old self.new }
         ensures still { IfOk result (λ turn. Stays turn self.old self.new) }
         ensures moved { IfOk result (λ turn. turn ≡ Turn.Moved) }

@@ -5,7 +5,7 @@ ghost use Rattle.scr_base.specs.Sets.{numbers_below};
 ghost use Rattle.filemap.specs.Rows.{routed, extended};
 ghost use Rattle.filemap.specs.Maps.{rows_of};
 ghost use Rattle.site_core.specs.Shown.{greatest_id};
-ghost use Rattle.site_core.specs.Choosing.{is_crowded, is_to_save, is_to_drop};
+ghost use Rattle.site_core.specs.Choosing.{due_in, is_crowded, is_to_save, is_to_drop};
 ghost use Rattle.site_core.specs.Numbers.{way_of};
 ghost use Rattle.site_core.specs.Holds.{IsSaveRound, IsDropRound};
 ghost use Rattle.site_core.specs.Cores.{dropping_core, next_drop_core, dropped_answer, closed_core, IsNewCore, IsSameCore, IsOpened, HasShape, IsSpot, recovered, with_rows, saved_in, sealed_core, settled_core};
@@ -19,6 +19,7 @@ use crate::removal::Removal;
 use crate::storing::Storing;
 use dataset_desc::Desc;
 use filemap::{Filemap, RouteError};
+use halt_file::Halt;
 use member_store::Part;
 use round_core::Round;
 use scr_base::{Config, DataId, Flags, Memory, Name, Phase, Refusal, Reply, Shape, Step, Word};
@@ -90,18 +91,22 @@ impl Core {
             kept: Cache::new(alloc),
             ranks: Round::new(alloc, shape.nodes * shape.ranks)?,
             settled: 0,
+            needs: 0,
+            reading: None,
+            halt: Halt::none(),
             removal: Removal::new(DataId { id: 1, run: 1 }, 0),
             refusal: None,
         })
     }
 
-    /// The run has this number, which is still to be stored.
-    pub(crate) fn number(&mut self, alloc: Global, run: u32)
+    /// The run has this number, which is still to be stored, and is to stop on these conditions.
+    pub(crate) fn number(&mut self, alloc: Global, run: u32, halt: Halt)
         requires { 1 ≤ run }
-        ensures { self.new ≡ record self.old { stage = Stage.Storing; run = run; storing = way_of run } }
+        ensures { self.new ≡ record self.old { stage = Stage.Storing; run = run; halt = halt; storing = way_of run } }
     {
         self.stage = Stage::Storing;
         self.run = run;
+        self.halt = halt;
         self.storing = Storing::new(alloc, run);
     }
 
@@ -130,6 +135,13 @@ impl Core {
         ensures { result ≡ is_crowded self.now }
     {
         self.kept.list().len() >= self.config.cache as usize
+    }
+
+    /// The smallest identity of a dataset that is to be flushed.
+    pub(crate) fn due(&self) -> Option<DataId>
+        ensures { result ≡ due_in self.now }
+    {
+        self.kept.due(self.config)
     }
 
     /// The identity of the dataset that the next Start would begin.
@@ -182,11 +194,12 @@ impl Core {
     /// The dataset is open.
     pub(crate) fn open(&mut self, manifest: Manifest)
         requires { self.old.next ≤ 4294967295 }
-        ensures { self.new ≡ record self.old { opened = Some manifest; next = self.old.next + 1; phase = Phase.Output } }
+        ensures { self.new ≡ record self.old { opened = Some manifest; next = self.old.next + 1; phase = Phase.Output; reading = None } }
     {
         self.opened = Some(manifest);
         self.next += 1;
         self.phase = Phase::Output;
+        self.reading = None;
     }
 
     /// Whether each rank has called its End.
@@ -395,6 +408,7 @@ impl Core {
     {
         self.opened = None;
         self.refusal = None;
+        self.reading = None;
         self.phase = Phase::Idle;
         self.stage = Stage::Serving;
     }

@@ -4,6 +4,7 @@ use crate::cache::{Cache, Manifest};
 use crate::places::Places;
 use crate::removal::Removal;
 use crate::storing::Storing;
+use halt_file::Halt;
 use round_core::Round;
 use scr_base::{Config, DataId, Phase, Refusal, Shape};
 
@@ -81,6 +82,12 @@ pub struct Core {
     pub ranks: Round,
     /// How many checkpoints were settled in this run.
     pub settled: u32,
+    /// How many Need rounds of this run were answered.
+    pub needs: u64,
+    /// What the clock told for the round.
+    pub reading: Option<u64>,
+    /// The conditions on which the job is to stop, once the prefix told them.
+    pub halt: Halt,
     /// How far the removal of a member of the open dataset has come.
     pub removal: Removal,
     /// Why a device refuses the round.

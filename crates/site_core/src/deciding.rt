@@ -3,9 +3,13 @@ ghost use Rattle.std.specs.Prelude.{Bool, ◌≡◌, ◌+◌, ◌*◌, ◌<◌, 
 ghost use Rattle.node_device.specs.Rack.{states_of};
 ghost use Rattle.scr_base.specs.declared.content.Step.TheVariants as step;
 ghost use Rattle.round_core.specs.Seats.{is_complete};
-ghost use Rattle.ckpt_model.specs.Answers.{is_of_kind, is_fault};
-ghost use Rattle.site_core.specs.Waiting.{round_turn, clear_turn, complete_turn};
-ghost use Rattle.site_core.specs.Follows.{Keeps, TellsBy, IsOfRound, IsSameRun, Stays, IsClearRound, IsRefusedRound, MayDecide};
+ghost use Rattle.ckpt_model.specs.Answers.{is_of_kind, is_fault, yes_if, exit_answer};
+ghost use Rattle.site_core.specs.Waiting.{round_turn, clear_turn, complete_turn, clock_turn, flush_turn};
+ghost use Rattle.site_core.specs.Choosing.{due_in};
+ghost use Rattle.site_core.specs.Ahead.{Lowers, some_calls};
+ghost use Rattle.site_core.specs.Order.{KeepsOrder};
+ghost use Rattle.site_core.specs.Follows.{Keeps, TellsBy, IsOfRound, IsSameRun, Stays, IsClearRound, IsRefusedRound, MayDecide, TellsFaults};
+ghost use Rattle.site_core.specs.Causes.{IsCalm};
 
 use crate::calls::changes_left;
 use crate::core_state::{Stage, Work};
@@ -15,7 +19,7 @@ use crate::site::Site;
 use crate::turn::{Turn, Why};
 use ckpt_model::{Event, Kind, StopCause};
 use node_device::Device;
-use scr_base::{Copies, DataId, Flags, Phase, Refusal, Reply, Step, Word};
+use scr_base::{Copies, DataId, Flags, Phase, Reason, Refusal, Reply, Step, Word};
 
 impl<D: Device> Site<D> {
     /// A complete round is decided, or has to wait.
@@ -23,8 +27,12 @@ impl<D: Device> Site<D> {
         requires stage { self.old.core.stage ≡ Stage.Serving }
         requires complete { is_complete self.old.core.ranks ≡ true }
         ensures run { OnOk result (Keeps D.state self.old self.new) }
+        ensures lowers { IfOk result (λ turn. Lowers turn self.old self.new) }
+        ensures order { OnOk result (KeepsOrder self.old self.new) }
         ensures told { OnOk result (TellsBy IsOfRound D.state self.old self.new) }
         ensures refused { OnErr result (self.new.history.events ≡ self.old.history.events) }
+        ensures calm { OnErr result (IsCalm (states_of D.state self.old.bay) (states_of D.state self.new.bay)) }
+        ensures accounted { OnOk result (TellsFaults D.state self.old self.new) }
         ensures fixed { IsSameRun self.old self.new }
         ensures still { IfOk result (λ turn. Stays turn self.old self.new) }
         ensures waits { IfOk result (λ turn. turn ≡ round_turn self.old.core None) }
@@ -40,20 +48,26 @@ impl<D: Device> Site<D> {
         }
     }
 
-    /// The round is decided so: every rank has the answer due.
+    /// The round is decided so: every rank has the answer due. So many Need rounds of the run are then answered.
     fn tell_round(
         &mut self,
         kind: Kind,
         answer: Reply,
         phase: Phase,
         offer: Option<DataId>,
+        needs: u64,
     ) -> Result<Turn, SiteError>
         requires stage { self.old.core.stage ≡ Stage.Serving }
-        requires steps { MayDecide D.state self.old kind answer phase offer }
+        requires steps { MayDecide D.state self.old kind answer phase offer needs }
         requires calm { is_fault answer ≡ false }
+        requires calls { some_calls self.old.core.ranks ≡ true }
         ensures run { OnOk result (Keeps D.state self.old self.new) }
+        ensures lowers { IfOk result (λ turn. Lowers turn self.old self.new) }
+        ensures order { OnOk result (KeepsOrder self.old self.new) }
         ensures told { OnOk result (TellsBy IsOfRound D.state self.old self.new) }
         ensures refused { OnErr result (self.new.history.events ≡ self.old.history.events) }
+        ensures calm { OnErr result (IsCalm (states_of D.state self.old.bay) (states_of D.state self.new.bay)) }
+        ensures accounted { OnOk result (TellsFaults D.state self.old self.new) }
         ensures fixed { IsSameRun self.old self.new }
         ensures still { IfOk result (λ turn. Stays turn self.old self.new) }
         ensures moved { IfOk result (λ turn. turn ≡ Turn.Moved) }
@@ -63,6 +77,8 @@ impl<D: Device> Site<D> {
         self.history.push(Event::Decided { kind, answer })?;
         self.core.phase = phase;
         self.core.offer = offer;
+        self.core.needs = needs;
+        self.core.reading = None;
         Ok(Turn::Moved)
     }
 
@@ -71,8 +87,12 @@ impl<D: Device> Site<D> {
         requires stage { self.old.core.stage ≡ Stage.Serving }
         requires round { IsRefusedRound self.old.core call.now refusal }
         ensures run { OnOk result (Keeps D.state self.old self.new) }
+        ensures lowers { IfOk result (λ turn. Lowers turn self.old self.new) }
+        ensures order { OnOk result (KeepsOrder self.old self.new) }
         ensures told { OnOk result (TellsBy IsOfRound D.state self.old self.new) }
         ensures refused { OnErr result (self.new.history.events ≡ self.old.history.events) }
+        ensures calm { OnErr result (IsCalm (states_of D.state self.old.bay) (states_of D.state self.new.bay)) }
+        ensures accounted { OnOk result (TellsFaults D.state self.old self.new) }
         ensures fixed { IsSameRun self.old self.new }
         ensures still { IfOk result (λ turn. Stays turn self.old self.new) }
         ensures moved { IfOk result (λ turn. turn ≡ Turn.Moved) }
@@ -83,6 +103,7 @@ impl<D: Device> Site<D> {
                 Reply::Refused { refusal },
                 self.core.phase,
                 self.core.offer,
+                self.core.needs,
             ),
             None => Err(SiteError::Memory),
         }
@@ -93,8 +114,12 @@ impl<D: Device> Site<D> {
         requires stage { self.old.core.stage ≡ Stage.Serving }
         requires round { IsClearRound self.old.core call }
         ensures run { OnOk result (Keeps D.state self.old self.new) }
+        ensures lowers { IfOk result (λ turn. Lowers turn self.old self.new) }
+        ensures order { OnOk result (KeepsOrder self.old self.new) }
         ensures told { OnOk result (TellsBy IsOfRound D.state self.old self.new) }
         ensures refused { OnErr result (self.new.history.events ≡ self.old.history.events) }
+        ensures calm { OnErr result (IsCalm (states_of D.state self.old.bay) (states_of D.state self.new.bay)) }
+        ensures accounted { OnOk result (TellsFaults D.state self.old self.new) }
         ensures fixed { IsSameRun self.old self.new }
         ensures still { IfOk result (λ turn. Stays turn self.old self.new) }
         ensures waits { IfOk result (λ turn. turn ≡ clear_turn self.old.core (Some call)) }
@@ -105,6 +130,9 @@ impl<D: Device> Site<D> {
             Step::Have => self.have(),
             Step::Restart => self.restart(),
             Step::Restarted { valid } => self.restarted(valid),
+            Step::Need => self.need(),
+            Step::Exit => self.exit(),
+            Step::Finalize => self.finalize(),
             Step::End => self.end(),
             _ => Err(SiteError::Memory),
         }
@@ -115,8 +143,12 @@ impl<D: Device> Site<D> {
         requires stage { self.old.core.stage ≡ Stage.Serving }
         requires round { IsClearRound self.old.core (step.Start name flags) }
         ensures run { OnOk result (Keeps D.state self.old self.new) }
+        ensures lowers { IfOk result (λ turn. Lowers turn self.old self.new) }
+        ensures order { OnOk result (KeepsOrder self.old self.new) }
         ensures told { OnOk result (TellsBy IsOfRound D.state self.old self.new) }
         ensures refused { OnErr result (self.new.history.events ≡ self.old.history.events) }
+        ensures calm { OnErr result (IsCalm (states_of D.state self.old.bay) (states_of D.state self.new.bay)) }
+        ensures accounted { OnOk result (TellsFaults D.state self.old self.new) }
         ensures fixed { IsSameRun self.old self.new }
         ensures still { IfOk result (λ turn. Stays turn self.old self.new) }
         ensures moved { IfOk result (λ turn. turn ≡ Turn.Moved) }
@@ -144,8 +176,12 @@ impl<D: Device> Site<D> {
         requires stage { self.old.core.stage ≡ Stage.Serving }
         requires round { IsClearRound self.old.core (step.Complete valid) }
         ensures run { OnOk result (Keeps D.state self.old self.new) }
+        ensures lowers { IfOk result (λ turn. Lowers turn self.old self.new) }
+        ensures order { OnOk result (KeepsOrder self.old self.new) }
         ensures told { OnOk result (TellsBy IsOfRound D.state self.old self.new) }
         ensures refused { OnErr result (self.new.history.events ≡ self.old.history.events) }
+        ensures calm { OnErr result (IsCalm (states_of D.state self.old.bay) (states_of D.state self.new.bay)) }
+        ensures accounted { OnOk result (TellsFaults D.state self.old self.new) }
         ensures fixed { IsSameRun self.old self.new }
         ensures still { IfOk result (λ turn. Stays turn self.old self.new) }
         ensures waits { IfOk result (λ turn. turn ≡ complete_turn self.old.core self.old.core.opened) }
@@ -171,8 +207,12 @@ impl<D: Device> Site<D> {
         requires round { (valid : Bool) × IsClearRound self.old.core (step.Complete valid) }
         requires opened { self.old.core.opened ≡ None }
         ensures run { OnOk result (Keeps D.state self.old self.new) }
+        ensures lowers { IfOk result (λ turn. Lowers turn self.old self.new) }
+        ensures order { OnOk result (KeepsOrder self.old self.new) }
         ensures told { OnOk result (TellsBy IsOfRound D.state self.old self.new) }
         ensures refused { OnErr result (self.new.history.events ≡ self.old.history.events) }
+        ensures calm { OnErr result (IsCalm (states_of D.state self.old.bay) (states_of D.state self.new.bay)) }
+        ensures accounted { OnOk result (TellsFaults D.state self.old self.new) }
         ensures fixed { IsSameRun self.old self.new }
         ensures still { IfOk result (λ turn. Stays turn self.old self.new) }
         ensures moved { IfOk result (λ turn. turn ≡ Turn.Moved) }
@@ -180,7 +220,13 @@ impl<D: Device> Site<D> {
         if !self.core.ranks.is_valid() {
             return Err(SiteError::Memory);
         }
-        self.tell_round(Kind::Complete, Reply::Kept, Phase::Idle, self.core.offer)
+        self.tell_round(
+            Kind::Complete,
+            Reply::Kept,
+            Phase::Idle,
+            self.core.offer,
+            self.core.needs,
+        )
     }
 
     /// The newest checkpoint is offered, or there is none.
@@ -188,8 +234,12 @@ impl<D: Device> Site<D> {
         requires stage { self.old.core.stage ≡ Stage.Serving }
         requires round { IsClearRound self.old.core step.Have }
         ensures run { OnOk result (Keeps D.state self.old self.new) }
+        ensures lowers { IfOk result (λ turn. Lowers turn self.old self.new) }
+        ensures order { OnOk result (KeepsOrder self.old self.new) }
         ensures told { OnOk result (TellsBy IsOfRound D.state self.old self.new) }
         ensures refused { OnErr result (self.new.history.events ≡ self.old.history.events) }
+        ensures calm { OnErr result (IsCalm (states_of D.state self.old.bay) (states_of D.state self.new.bay)) }
+        ensures accounted { OnOk result (TellsFaults D.state self.old self.new) }
         ensures fixed { IsSameRun self.old self.new }
         ensures still { IfOk result (λ turn. Stays turn self.old self.new) }
         ensures moved { IfOk result (λ turn. turn ≡ Turn.Moved) }
@@ -203,9 +253,16 @@ impl<D: Device> Site<D> {
                     Reply::Offer { which, name },
                     Phase::Offered,
                     Some(which),
+                    self.core.needs,
                 )
             }
-            None => self.tell_round(Kind::Have, Reply::NoneLeft, Phase::Idle, None),
+            None => self.tell_round(
+                Kind::Have,
+                Reply::NoneLeft,
+                Phase::Idle,
+                None,
+                self.core.needs,
+            ),
         }
     }
 
@@ -214,8 +271,12 @@ impl<D: Device> Site<D> {
         requires stage { self.old.core.stage ≡ Stage.Serving }
         requires round { IsClearRound self.old.core step.Restart }
         ensures run { OnOk result (Keeps D.state self.old self.new) }
+        ensures lowers { IfOk result (λ turn. Lowers turn self.old self.new) }
+        ensures order { OnOk result (KeepsOrder self.old self.new) }
         ensures told { OnOk result (TellsBy IsOfRound D.state self.old self.new) }
         ensures refused { OnErr result (self.new.history.events ≡ self.old.history.events) }
+        ensures calm { OnErr result (IsCalm (states_of D.state self.old.bay) (states_of D.state self.new.bay)) }
+        ensures accounted { OnOk result (TellsFaults D.state self.old self.new) }
         ensures fixed { IsSameRun self.old self.new }
         ensures still { IfOk result (λ turn. Stays turn self.old self.new) }
         ensures moved { IfOk result (λ turn. turn ≡ Turn.Moved) }
@@ -226,7 +287,13 @@ impl<D: Device> Site<D> {
         if !self.core.kept.has_settled(which) {
             return Err(SiteError::Memory);
         }
-        self.tell_round(Kind::Restart, Reply::Done, Phase::Restart, self.core.offer)
+        self.tell_round(
+            Kind::Restart,
+            Reply::Done,
+            Phase::Restart,
+            self.core.offer,
+            self.core.needs,
+        )
     }
 
     /// Every rank has what it needs of the dataset.
@@ -234,8 +301,12 @@ impl<D: Device> Site<D> {
         requires stage { self.old.core.stage ≡ Stage.Serving }
         requires round { IsClearRound self.old.core (step.Restarted valid) }
         ensures run { OnOk result (Keeps D.state self.old self.new) }
+        ensures lowers { IfOk result (λ turn. Lowers turn self.old self.new) }
+        ensures order { OnOk result (KeepsOrder self.old self.new) }
         ensures told { OnOk result (TellsBy IsOfRound D.state self.old self.new) }
         ensures refused { OnErr result (self.new.history.events ≡ self.old.history.events) }
+        ensures calm { OnErr result (IsCalm (states_of D.state self.old.bay) (states_of D.state self.new.bay)) }
+        ensures accounted { OnOk result (TellsFaults D.state self.old self.new) }
         ensures fixed { IsSameRun self.old self.new }
         ensures still { IfOk result (λ turn. Stays turn self.old self.new) }
         ensures moved { IfOk result (λ turn. turn ≡ Turn.Moved) }
@@ -243,7 +314,96 @@ impl<D: Device> Site<D> {
         if !self.core.ranks.is_valid() {
             return Err(SiteError::Memory);
         }
-        self.tell_round(Kind::Restarted, Reply::Done, Phase::Idle, self.core.offer)
+        self.tell_round(
+            Kind::Restarted,
+            Reply::Done,
+            Phase::Idle,
+            self.core.offer,
+            self.core.needs,
+        )
+    }
+
+    /// Whether a checkpoint is wanted: at each n-th question of the run, and where the job is to stop.
+    fn need(&mut self) -> Result<Turn, SiteError>
+        requires stage { self.old.core.stage ≡ Stage.Serving }
+        requires round { IsClearRound self.old.core step.Need }
+        ensures run { OnOk result (Keeps D.state self.old self.new) }
+        ensures lowers { IfOk result (λ turn. Lowers turn self.old self.new) }
+        ensures order { OnOk result (KeepsOrder self.old self.new) }
+        ensures told { OnOk result (TellsBy IsOfRound D.state self.old self.new) }
+        ensures refused { OnErr result (self.new.history.events ≡ self.old.history.events) }
+        ensures calm { OnErr result (IsCalm (states_of D.state self.old.bay) (states_of D.state self.new.bay)) }
+        ensures accounted { OnOk result (TellsFaults D.state self.old self.new) }
+        ensures fixed { IsSameRun self.old self.new }
+        ensures still { IfOk result (λ turn. Stays turn self.old self.new) }
+        ensures waits { IfOk result (λ turn. turn ≡ clock_turn self.old.core.reading) }
+    {
+        let Some(now) = self.core.reading else {
+            return Ok(Turn::NotYet { why: Why::Clock });
+        };
+        if self.core.needs == u64::MAX {
+            return Err(SiteError::Memory);
+        }
+        let needs = self.core.needs + 1;
+        let answer = yes_if(self.core.is_needed(needs, now));
+        self.tell_round(Kind::Need, answer, self.core.phase, self.core.offer, needs)
+    }
+
+    /// Whether the job is to stop, and why.
+    fn exit(&mut self) -> Result<Turn, SiteError>
+        requires stage { self.old.core.stage ≡ Stage.Serving }
+        requires round { IsClearRound self.old.core step.Exit }
+        ensures run { OnOk result (Keeps D.state self.old self.new) }
+        ensures lowers { IfOk result (λ turn. Lowers turn self.old self.new) }
+        ensures order { OnOk result (KeepsOrder self.old self.new) }
+        ensures told { OnOk result (TellsBy IsOfRound D.state self.old self.new) }
+        ensures refused { OnErr result (self.new.history.events ≡ self.old.history.events) }
+        ensures calm { OnErr result (IsCalm (states_of D.state self.old.bay) (states_of D.state self.new.bay)) }
+        ensures accounted { OnOk result (TellsFaults D.state self.old self.new) }
+        ensures fixed { IsSameRun self.old self.new }
+        ensures still { IfOk result (λ turn. Stays turn self.old self.new) }
+        ensures waits { IfOk result (λ turn. turn ≡ clock_turn self.old.core.reading) }
+    {
+        let Some(now) = self.core.reading else {
+            return Ok(Turn::NotYet { why: Why::Clock });
+        };
+        let answer = exit_answer(self.core.halt.reason(now, self.core.settled));
+        self.tell_round(
+            Kind::Exit,
+            answer,
+            self.core.phase,
+            self.core.offer,
+            self.core.needs,
+        )
+    }
+
+    /// The job has done its work, once nothing is left to be flushed.
+    fn finalize(&mut self) -> Result<Turn, SiteError>
+        requires stage { self.old.core.stage ≡ Stage.Serving }
+        requires round { IsClearRound self.old.core step.Finalize }
+        ensures run { OnOk result (Keeps D.state self.old self.new) }
+        ensures lowers { IfOk result (λ turn. Lowers turn self.old self.new) }
+        ensures order { OnOk result (KeepsOrder self.old self.new) }
+        ensures told { OnOk result (TellsBy IsOfRound D.state self.old self.new) }
+        ensures refused { OnErr result (self.new.history.events ≡ self.old.history.events) }
+        ensures calm { OnErr result (IsCalm (states_of D.state self.old.bay) (states_of D.state self.new.bay)) }
+        ensures accounted { OnOk result (TellsFaults D.state self.old self.new) }
+        ensures fixed { IsSameRun self.old self.new }
+        ensures still { IfOk result (λ turn. Stays turn self.old self.new) }
+        ensures waits { IfOk result (λ turn. turn ≡ flush_turn (due_in self.old.core)) }
+    {
+        match self.core.due() {
+            Some(which) => Ok(Turn::NotYet {
+                why: Why::Flush { id: which.id },
+            }),
+            None => self.tell_round(
+                Kind::Finalize,
+                Reply::Done,
+                Phase::Final,
+                self.core.offer,
+                self.core.needs,
+            ),
+        }
     }
 
     /// The run is over.
@@ -251,8 +411,12 @@ impl<D: Device> Site<D> {
         requires stage { self.old.core.stage ≡ Stage.Serving }
         requires round { IsClearRound self.old.core step.End }
         ensures run { OnOk result (Keeps D.state self.old self.new) }
+        ensures lowers { IfOk result (λ turn. Lowers turn self.old self.new) }
+        ensures order { OnOk result (KeepsOrder self.old self.new) }
         ensures told { OnOk result (TellsBy IsOfRound D.state self.old self.new) }
         ensures refused { OnErr result (self.new.history.events ≡ self.old.history.events) }
+        ensures calm { OnErr result (IsCalm (states_of D.state self.old.bay) (states_of D.state self.new.bay)) }
+        ensures accounted { OnOk result (TellsFaults D.state self.old self.new) }
         ensures fixed { IsSameRun self.old self.new }
         ensures still { IfOk result (λ turn. Stays turn self.old self.new) }
         ensures moved { IfOk result (λ turn. turn ≡ Turn.Moved) }
@@ -268,6 +432,23 @@ impl<D: Device> Site<D> {
         )?;
         self.core.stage = Stage::Stopped;
         Ok(Turn::Moved)
+    }
+}
+
+/// Yes or no.
+fn yes_if(yes: bool) -> Reply
+    ensures { result ≡ yes_if yes }
+{
+    if yes { Reply::Yes } else { Reply::No }
+}
+
+/// Why the job is to stop; no where it isn't.
+fn exit_answer(reason: Option<Reason>) -> Reply
+    ensures { result ≡ exit_answer reason }
+{
+    match reason {
+        Some(reason) => Reply::Exit { reason },
+        None => Reply::No,
     }
 }
 

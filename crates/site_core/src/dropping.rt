@@ -1,9 +1,12 @@
 // The moves of the evictor: the files of an open dataset that isn't to be kept are removed.
-ghost use Rattle.std.specs.Prelude.{◌≡◌, ◌+◌, ◌<◌, ◌≤◌, true, None, Some, IfOk, OnOk, OnErr};
-ghost use Rattle.std.specs.Prelude.{if◌then◌else◌};
+ghost use Rattle.std.specs.Prelude.{◌≡◌, ◌+◌, ◌<◌, ◌≤◌, true, None, Some, IfOk, OnOk, OnErr, if◌then◌else◌};
 ghost use Rattle.site_core.specs.Choosing.{is_to_drop};
 ghost use Rattle.site_core.specs.Waiting.{evictor_turn};
-ghost use Rattle.site_core.specs.Follows.{Keeps, TellsBy, IsOfWorker, IsOfRound, IsSameRun, Stays};
+ghost use Rattle.site_core.specs.Ahead.{Lowers};
+ghost use Rattle.site_core.specs.Order.{KeepsOrder};
+ghost use Rattle.site_core.specs.Follows.{Keeps, TellsBy, IsOfWorker, IsOfRound, IsSameRun, Stays, TellsFaults};
+ghost use Rattle.node_device.specs.Rack.{states_of};
+ghost use Rattle.site_core.specs.Causes.{IsCalm};
 
 use crate::core_state::{Drop, Stage};
 use crate::error::SiteError;
@@ -18,8 +21,12 @@ impl<D: Device> Site<D> {
     /// The evictor's turn.
     pub(crate) fn evict(&mut self) -> Result<Turn, SiteError>
         ensures run { OnOk result (Keeps D.state self.old self.new) }
+        ensures lowers { IfOk result (λ turn. Lowers turn self.old self.new) }
+        ensures order { OnOk result (KeepsOrder self.old self.new) }
         ensures told { OnOk result (TellsBy IsOfWorker D.state self.old self.new) }
         ensures refused { OnErr result (self.new.history.events ≡ self.old.history.events) }
+        ensures calm { OnErr result (IsCalm (states_of D.state self.old.bay) (states_of D.state self.new.bay)) }
+        ensures accounted { OnOk result (TellsFaults D.state self.old self.new) }
         ensures fixed { IsSameRun self.old self.new }
         ensures still { IfOk result (λ turn. Stays turn self.old self.new) }
         ensures waits { IfOk result (λ turn. turn ≡ evictor_turn self.old.core.stage self.old.core) }
@@ -41,8 +48,12 @@ impl<D: Device> Site<D> {
     fn begin_dropping(&mut self) -> Result<Turn, SiteError>
         requires stage { self.old.core.stage ≡ Stage.Serving }
         ensures run { OnOk result (Keeps D.state self.old self.new) }
+        ensures lowers { IfOk result (λ turn. Lowers turn self.old self.new) }
+        ensures order { OnOk result (KeepsOrder self.old self.new) }
         ensures told { OnOk result (TellsBy IsOfWorker D.state self.old self.new) }
         ensures refused { OnErr result (self.new.history.events ≡ self.old.history.events) }
+        ensures calm { OnErr result (IsCalm (states_of D.state self.old.bay) (states_of D.state self.new.bay)) }
+        ensures accounted { OnOk result (TellsFaults D.state self.old self.new) }
         ensures fixed { IsSameRun self.old self.new }
         ensures still { IfOk result (λ turn. Stays turn self.old self.new) }
         ensures waits { IfOk result (λ turn. turn ≡ (if is_to_drop self.old.core then Turn.Moved else Turn.NotYet Why.Idle)) }
@@ -59,8 +70,12 @@ impl<D: Device> Site<D> {
     fn drop_on(&mut self, drop: Drop, node: u8) -> Result<Turn, SiteError>
         requires stage { self.old.core.stage ≡ Stage.Dropping drop node }
         ensures run { OnOk result (Keeps D.state self.old self.new) }
+        ensures lowers { IfOk result (λ turn. Lowers turn self.old self.new) }
+        ensures order { OnOk result (KeepsOrder self.old self.new) }
         ensures told { OnOk result (TellsBy IsOfWorker D.state self.old self.new) }
         ensures refused { OnErr result (self.new.history.events ≡ self.old.history.events) }
+        ensures calm { OnErr result (IsCalm (states_of D.state self.old.bay) (states_of D.state self.new.bay)) }
+        ensures accounted { OnOk result (TellsFaults D.state self.old self.new) }
         ensures fixed { IsSameRun self.old self.new }
         ensures still { IfOk result (λ turn. Stays turn self.old self.new) }
         ensures moved { IfOk result (λ turn. turn ≡ Turn.Moved) }
@@ -75,8 +90,12 @@ impl<D: Device> Site<D> {
     fn remove_file(&mut self, node: u8) -> Result<Turn, SiteError>
         requires stage { self.old.core.stage ≡ Stage.Dropping Drop.File node }
         ensures run { OnOk result (Keeps D.state self.old self.new) }
+        ensures lowers { IfOk result (λ turn. Lowers turn self.old self.new) }
+        ensures order { OnOk result (KeepsOrder self.old self.new) }
         ensures told { OnOk result (TellsBy IsOfWorker D.state self.old self.new) }
         ensures refused { OnErr result (self.new.history.events ≡ self.old.history.events) }
+        ensures calm { OnErr result (IsCalm (states_of D.state self.old.bay) (states_of D.state self.new.bay)) }
+        ensures accounted { OnOk result (TellsFaults D.state self.old self.new) }
         ensures fixed { IsSameRun self.old self.new }
         ensures still { IfOk result (λ turn. Stays turn self.old self.new) }
         ensures moved { IfOk result (λ turn. turn ≡ Turn.Moved) }
@@ -84,6 +103,7 @@ impl<D: Device> Site<D> {
         let Some(place) = self.core.places.of_node(node) else {
             return Err(SiteError::Memory);
         };
+        self.history.reserve(2)?;
         match drop_file(self.alloc, &mut self.bay, place, &mut self.core.removal) {
             Ok(true) => {
                 self.core.stage = Stage::Dropping {
@@ -101,8 +121,12 @@ impl<D: Device> Site<D> {
     fn sync_removal(&mut self, node: u8) -> Result<Turn, SiteError>
         requires stage { self.old.core.stage ≡ Stage.Dropping Drop.Sync node }
         ensures run { OnOk result (Keeps D.state self.old self.new) }
+        ensures lowers { IfOk result (λ turn. Lowers turn self.old self.new) }
+        ensures order { OnOk result (KeepsOrder self.old self.new) }
         ensures told { OnOk result (TellsBy IsOfWorker D.state self.old self.new) }
         ensures refused { OnErr result (self.new.history.events ≡ self.old.history.events) }
+        ensures calm { OnErr result (IsCalm (states_of D.state self.old.bay) (states_of D.state self.new.bay)) }
+        ensures accounted { OnOk result (TellsFaults D.state self.old self.new) }
         ensures fixed { IsSameRun self.old self.new }
         ensures still { IfOk result (λ turn. Stays turn self.old self.new) }
         ensures moved { IfOk result (λ turn. turn ≡ Turn.Moved) }
@@ -110,6 +134,7 @@ impl<D: Device> Site<D> {
         let Some(place) = self.core.places.of_node(node) else {
             return Err(SiteError::Memory);
         };
+        self.history.reserve(2)?;
         match sync_node(&mut self.bay, place) {
             Ok(()) => {
                 self.core.drop_after(node);
@@ -123,8 +148,12 @@ impl<D: Device> Site<D> {
     pub(crate) fn decide_dropped(&mut self) -> Result<Turn, SiteError>
         requires stage { self.old.core.stage ≡ Stage.Dropped }
         ensures run { OnOk result (Keeps D.state self.old self.new) }
+        ensures lowers { IfOk result (λ turn. Lowers turn self.old self.new) }
+        ensures order { OnOk result (KeepsOrder self.old self.new) }
         ensures told { OnOk result (TellsBy IsOfRound D.state self.old self.new) }
         ensures refused { OnErr result (self.new.history.events ≡ self.old.history.events) }
+        ensures calm { OnErr result (IsCalm (states_of D.state self.old.bay) (states_of D.state self.new.bay)) }
+        ensures accounted { OnOk result (TellsFaults D.state self.old self.new) }
         ensures fixed { IsSameRun self.old self.new }
         ensures still { IfOk result (λ turn. Stays turn self.old self.new) }
         ensures moved { IfOk result (λ turn. turn ≡ Turn.Moved) }

@@ -1,15 +1,15 @@
 // The moves of the encoder: each node's record is written, and its gates are opened.
-ghost use Rattle.std.specs.Prelude.{◌≡◌, ◌+◌, ◌-◌, ◌*◌, ◌<◌, ◌≤◌, ◌^◌, true, false, None, Some, length, map, IfOk, OnOk, OnErr};
+ghost use Rattle.std.specs.Prelude.{◌≡◌, ◌+◌, ◌-◌, ◌*◌, ◌<◌, ◌≤◌, ◌^◌, true, false, None, Some, length, map, IfOk, OnOk, OnErr, if◌then◌else◌};
 ghost use Rattle.node_device.specs.Rack.{states_of};
 ghost use Rattle.site_core.specs.declared.core_state.Work.TheVariants as work;
-ghost use Rattle.site_core.specs.declared.cache.Manifest.{Manifest};
 ghost use Rattle.scr_base.specs.declared.answers.Refusal.{Refusal};
 ghost use Rattle.site_core.specs.Cores.{dropping_core};
-ghost use Rattle.std.specs.Prelude.{if◌then◌else◌};
 ghost use Rattle.site_core.specs.Choosing.{is_to_save};
 ghost use Rattle.site_core.specs.Waiting.{encoder_turn};
-ghost use Rattle.site_core.specs.Causes.{told_trouble};
-ghost use Rattle.site_core.specs.Follows.{Keeps, TellsBy, IsOfWorker, IsSameRun, Stays, IsSavingAt};
+ghost use Rattle.site_core.specs.Causes.{told_trouble, IsCalm};
+ghost use Rattle.site_core.specs.Ahead.{Lowers, IsToRecord, removal_ahead, stage_ahead};
+ghost use Rattle.site_core.specs.Order.{KeepsOrder};
+ghost use Rattle.site_core.specs.Follows.{Keeps, TellsBy, IsOfWorker, IsSameRun, Stays, IsSavingAt, TellsFaults, TellsOrCarries, carried};
 
 use crate::core_state::{Stage, Work};
 use crate::error::{SiteError, Trouble};
@@ -19,13 +19,18 @@ use crate::turn::{Turn, Why};
 use ckpt_model::Event;
 use member_store::MemberGate;
 use node_device::Device;
+use scr_base::DataId;
 
 impl<D: Device> Site<D> {
     /// The encoder's turn.
     pub(crate) fn encode(&mut self) -> Result<Turn, SiteError>
         ensures run { OnOk result (Keeps D.state self.old self.new) }
+        ensures lowers { IfOk result (λ turn. Lowers turn self.old self.new) }
+        ensures order { OnOk result (KeepsOrder self.old self.new) }
         ensures told { OnOk result (TellsBy IsOfWorker D.state self.old self.new) }
         ensures refused { OnErr result (self.new.history.events ≡ self.old.history.events) }
+        ensures calm { OnErr result (IsCalm (states_of D.state self.old.bay) (states_of D.state self.new.bay)) }
+        ensures accounted { OnOk result (TellsOrCarries D.state self.old self.new) }
         ensures fixed { IsSameRun self.old self.new }
         ensures still { IfOk result (λ turn. Stays turn self.old self.new) }
         ensures waits { IfOk result (λ turn. turn ≡ encoder_turn self.old.core.stage self.old.core) }
@@ -47,8 +52,12 @@ impl<D: Device> Site<D> {
     fn begin_saving(&mut self) -> Result<Turn, SiteError>
         requires stage { self.old.core.stage ≡ Stage.Serving }
         ensures run { OnOk result (Keeps D.state self.old self.new) }
+        ensures lowers { IfOk result (λ turn. Lowers turn self.old self.new) }
+        ensures order { OnOk result (KeepsOrder self.old self.new) }
         ensures told { OnOk result (TellsBy IsOfWorker D.state self.old self.new) }
         ensures refused { OnErr result (self.new.history.events ≡ self.old.history.events) }
+        ensures calm { OnErr result (IsCalm (states_of D.state self.old.bay) (states_of D.state self.new.bay)) }
+        ensures accounted { OnOk result (TellsOrCarries D.state self.old self.new) }
         ensures fixed { IsSameRun self.old self.new }
         ensures still { IfOk result (λ turn. Stays turn self.old self.new) }
         ensures waits { IfOk result (λ turn. turn ≡ (if is_to_save self.old.core then Turn.Moved else Turn.NotYet Why.Idle)) }
@@ -64,8 +73,12 @@ impl<D: Device> Site<D> {
     fn save(&mut self, work: Work, node: u8) -> Result<Turn, SiteError>
         requires stage { self.old.core.stage ≡ Stage.Saving work node }
         ensures run { OnOk result (Keeps D.state self.old self.new) }
+        ensures lowers { IfOk result (λ turn. Lowers turn self.old self.new) }
+        ensures order { OnOk result (KeepsOrder self.old self.new) }
         ensures told { OnOk result (TellsBy IsOfWorker D.state self.old self.new) }
         ensures refused { OnErr result (self.new.history.events ≡ self.old.history.events) }
+        ensures calm { OnErr result (IsCalm (states_of D.state self.old.bay) (states_of D.state self.new.bay)) }
+        ensures accounted { OnOk result (TellsOrCarries D.state self.old self.new) }
         ensures fixed { IsSameRun self.old self.new }
         ensures still { IfOk result (λ turn. Stays turn self.old self.new) }
         ensures moved { IfOk result (λ turn. turn ≡ Turn.Moved) }
@@ -83,9 +96,15 @@ impl<D: Device> Site<D> {
     /// A node's record is written, with its gates closed.
     fn write_record(&mut self, node: u8) -> Result<Turn, SiteError>
         requires saving { IsSavingAt D.state self.old work.Record node }
+        requires stage { IsToRecord self.old.core.stage node }
+        requires free { carried self.old.core ≡ None }
         ensures run { OnOk result (Keeps D.state self.old self.new) }
+        ensures lowers { IfOk result (λ turn. Lowers turn self.old self.new) }
+        ensures order { OnOk result (KeepsOrder self.old self.new) }
         ensures told { OnOk result (TellsBy IsOfWorker D.state self.old self.new) }
         ensures refused { OnErr result (self.new.history.events ≡ self.old.history.events) }
+        ensures calm { OnErr result (IsCalm (states_of D.state self.old.bay) (states_of D.state self.new.bay)) }
+        ensures accounted { OnOk result (TellsOrCarries D.state self.old self.new) }
         ensures fixed { IsSameRun self.old self.new }
         ensures still { IfOk result (λ turn. Stays turn self.old self.new) }
         ensures moved { IfOk result (λ turn. turn ≡ Turn.Moved) }
@@ -101,6 +120,7 @@ impl<D: Device> Site<D> {
         {
             return Err(SiteError::Memory);
         }
+        let which = m.desc.which;
         match put_member(self.alloc, &mut self.bay, place, node, &m.desc, &m.files) {
             Ok(()) => {
                 self.core.stage = Stage::Saving {
@@ -109,7 +129,7 @@ impl<D: Device> Site<D> {
                 };
                 Ok(Turn::Moved)
             }
-            Err(trouble) => self.carry(trouble),
+            Err(trouble) => self.carry(which, trouble),
         }
     }
 
@@ -117,8 +137,12 @@ impl<D: Device> Site<D> {
     fn sync_record(&mut self, node: u8) -> Result<Turn, SiteError>
         requires stage { self.old.core.stage ≡ Stage.Saving Work.RecordSync node }
         ensures run { OnOk result (Keeps D.state self.old self.new) }
+        ensures lowers { IfOk result (λ turn. Lowers turn self.old self.new) }
+        ensures order { OnOk result (KeepsOrder self.old self.new) }
         ensures told { OnOk result (TellsBy IsOfWorker D.state self.old self.new) }
         ensures refused { OnErr result (self.new.history.events ≡ self.old.history.events) }
+        ensures calm { OnErr result (IsCalm (states_of D.state self.old.bay) (states_of D.state self.new.bay)) }
+        ensures accounted { OnOk result (TellsOrCarries D.state self.old self.new) }
         ensures fixed { IsSameRun self.old self.new }
         ensures still { IfOk result (λ turn. Stays turn self.old self.new) }
         ensures moved { IfOk result (λ turn. turn ≡ Turn.Moved) }
@@ -126,12 +150,16 @@ impl<D: Device> Site<D> {
         let Some(place) = self.core.places.of_node(node) else {
             return Err(SiteError::Memory);
         };
+        let Some(m) = &self.core.opened else {
+            return Err(SiteError::Memory);
+        };
+        let which = m.desc.which;
         match sync_node(&mut self.bay, place) {
             Ok(()) => {
                 self.core.stage = self.core.after(node, Work::Record, Work::Whole);
                 Ok(Turn::Moved)
             }
-            Err(trouble) => self.carry(trouble),
+            Err(trouble) => self.carry(which, trouble),
         }
     }
 
@@ -139,8 +167,12 @@ impl<D: Device> Site<D> {
     fn open_whole(&mut self, node: u8) -> Result<Turn, SiteError>
         requires stage { self.old.core.stage ≡ Stage.Saving Work.Whole node }
         ensures run { OnOk result (Keeps D.state self.old self.new) }
+        ensures lowers { IfOk result (λ turn. Lowers turn self.old self.new) }
+        ensures order { OnOk result (KeepsOrder self.old self.new) }
         ensures told { OnOk result (TellsBy IsOfWorker D.state self.old self.new) }
         ensures refused { OnErr result (self.new.history.events ≡ self.old.history.events) }
+        ensures calm { OnErr result (IsCalm (states_of D.state self.old.bay) (states_of D.state self.new.bay)) }
+        ensures accounted { OnOk result (TellsFaults D.state self.old self.new) }
         ensures fixed { IsSameRun self.old self.new }
         ensures still { IfOk result (λ turn. Stays turn self.old self.new) }
         ensures moved { IfOk result (λ turn. turn ≡ Turn.Moved) }
@@ -151,6 +183,7 @@ impl<D: Device> Site<D> {
         let Some(which) = self.core.saved() else {
             return Err(SiteError::Memory);
         };
+        self.history.reserve(2)?;
         match put_gate(&mut self.bay, place, which, node, MemberGate::Whole) {
             Ok(()) => {
                 self.core.stage = Stage::Saving {
@@ -167,8 +200,12 @@ impl<D: Device> Site<D> {
     fn sync_whole(&mut self, node: u8) -> Result<Turn, SiteError>
         requires stage { self.old.core.stage ≡ Stage.Saving Work.WholeSync node }
         ensures run { OnOk result (Keeps D.state self.old self.new) }
+        ensures lowers { IfOk result (λ turn. Lowers turn self.old self.new) }
+        ensures order { OnOk result (KeepsOrder self.old self.new) }
         ensures told { OnOk result (TellsBy IsOfWorker D.state self.old self.new) }
         ensures refused { OnErr result (self.new.history.events ≡ self.old.history.events) }
+        ensures calm { OnErr result (IsCalm (states_of D.state self.old.bay) (states_of D.state self.new.bay)) }
+        ensures accounted { OnOk result (TellsFaults D.state self.old self.new) }
         ensures fixed { IsSameRun self.old self.new }
         ensures still { IfOk result (λ turn. Stays turn self.old self.new) }
         ensures moved { IfOk result (λ turn. turn ≡ Turn.Moved) }
@@ -176,6 +213,7 @@ impl<D: Device> Site<D> {
         let Some(place) = self.core.places.of_node(node) else {
             return Err(SiteError::Memory);
         };
+        self.history.reserve(2)?;
         match sync_node(&mut self.bay, place) {
             Ok(()) => {
                 self.core.stage = self.core.after(node, Work::Whole, Work::Sealed);
@@ -189,8 +227,12 @@ impl<D: Device> Site<D> {
     fn open_sealed(&mut self, node: u8) -> Result<Turn, SiteError>
         requires stage { self.old.core.stage ≡ Stage.Saving Work.Sealed node }
         ensures run { OnOk result (Keeps D.state self.old self.new) }
+        ensures lowers { IfOk result (λ turn. Lowers turn self.old self.new) }
+        ensures order { OnOk result (KeepsOrder self.old self.new) }
         ensures told { OnOk result (TellsBy IsOfWorker D.state self.old self.new) }
         ensures refused { OnErr result (self.new.history.events ≡ self.old.history.events) }
+        ensures calm { OnErr result (IsCalm (states_of D.state self.old.bay) (states_of D.state self.new.bay)) }
+        ensures accounted { OnOk result (TellsFaults D.state self.old self.new) }
         ensures fixed { IsSameRun self.old self.new }
         ensures still { IfOk result (λ turn. Stays turn self.old self.new) }
         ensures moved { IfOk result (λ turn. turn ≡ Turn.Moved) }
@@ -205,8 +247,12 @@ impl<D: Device> Site<D> {
     fn seal_first(&mut self, node: u8) -> Result<Turn, SiteError>
         requires stage { self.old.core.stage ≡ Stage.Saving Work.Sealed node }
         ensures run { OnOk result (Keeps D.state self.old self.new) }
+        ensures lowers { IfOk result (λ turn. Lowers turn self.old self.new) }
+        ensures order { OnOk result (KeepsOrder self.old self.new) }
         ensures told { OnOk result (TellsBy IsOfWorker D.state self.old self.new) }
         ensures refused { OnErr result (self.new.history.events ≡ self.old.history.events) }
+        ensures calm { OnErr result (IsCalm (states_of D.state self.old.bay) (states_of D.state self.new.bay)) }
+        ensures accounted { OnOk result (TellsFaults D.state self.old self.new) }
         ensures fixed { IsSameRun self.old self.new }
         ensures still { IfOk result (λ turn. Stays turn self.old self.new) }
         ensures moved { IfOk result (λ turn. turn ≡ Turn.Moved) }
@@ -238,8 +284,12 @@ impl<D: Device> Site<D> {
     fn seal_next(&mut self, node: u8) -> Result<Turn, SiteError>
         requires stage { self.old.core.stage ≡ Stage.Saving Work.Sealed node }
         ensures run { OnOk result (Keeps D.state self.old self.new) }
+        ensures lowers { IfOk result (λ turn. Lowers turn self.old self.new) }
+        ensures order { OnOk result (KeepsOrder self.old self.new) }
         ensures told { OnOk result (TellsBy IsOfWorker D.state self.old self.new) }
         ensures refused { OnErr result (self.new.history.events ≡ self.old.history.events) }
+        ensures calm { OnErr result (IsCalm (states_of D.state self.old.bay) (states_of D.state self.new.bay)) }
+        ensures accounted { OnOk result (TellsFaults D.state self.old self.new) }
         ensures fixed { IsSameRun self.old self.new }
         ensures still { IfOk result (λ turn. Stays turn self.old self.new) }
         ensures moved { IfOk result (λ turn. turn ≡ Turn.Moved) }
@@ -250,6 +300,7 @@ impl<D: Device> Site<D> {
         let Some(which) = self.core.saved() else {
             return Err(SiteError::Memory);
         };
+        self.history.reserve(2)?;
         match put_gate(&mut self.bay, place, which, node, MemberGate::Sealed) {
             Ok(()) => {
                 self.core.stage = Stage::Saving {
@@ -266,8 +317,12 @@ impl<D: Device> Site<D> {
     fn sync_sealed(&mut self, node: u8) -> Result<Turn, SiteError>
         requires stage { self.old.core.stage ≡ Stage.Saving Work.SealedSync node }
         ensures run { OnOk result (Keeps D.state self.old self.new) }
+        ensures lowers { IfOk result (λ turn. Lowers turn self.old self.new) }
+        ensures order { OnOk result (KeepsOrder self.old self.new) }
         ensures told { OnOk result (TellsBy IsOfWorker D.state self.old self.new) }
         ensures refused { OnErr result (self.new.history.events ≡ self.old.history.events) }
+        ensures calm { OnErr result (IsCalm (states_of D.state self.old.bay) (states_of D.state self.new.bay)) }
+        ensures accounted { OnOk result (TellsFaults D.state self.old self.new) }
         ensures fixed { IsSameRun self.old self.new }
         ensures still { IfOk result (λ turn. Stays turn self.old self.new) }
         ensures moved { IfOk result (λ turn. turn ≡ Turn.Moved) }
@@ -284,8 +339,12 @@ impl<D: Device> Site<D> {
         requires stage { self.old.core.stage ≡ Stage.Saving Work.SealedSync node }
         requires more { node < self.old.core.shape.nodes - 1 }
         ensures run { OnOk result (Keeps D.state self.old self.new) }
+        ensures lowers { IfOk result (λ turn. Lowers turn self.old self.new) }
+        ensures order { OnOk result (KeepsOrder self.old self.new) }
         ensures told { OnOk result (TellsBy IsOfWorker D.state self.old self.new) }
         ensures refused { OnErr result (self.new.history.events ≡ self.old.history.events) }
+        ensures calm { OnErr result (IsCalm (states_of D.state self.old.bay) (states_of D.state self.new.bay)) }
+        ensures accounted { OnOk result (TellsFaults D.state self.old self.new) }
         ensures fixed { IsSameRun self.old self.new }
         ensures still { IfOk result (λ turn. Stays turn self.old self.new) }
         ensures moved { IfOk result (λ turn. turn ≡ Turn.Moved) }
@@ -293,6 +352,7 @@ impl<D: Device> Site<D> {
         let Some(place) = self.core.places.of_node(node) else {
             return Err(SiteError::Memory);
         };
+        self.history.reserve(2)?;
         match sync_node(&mut self.bay, place) {
             Ok(()) => {
                 self.core.stage = Stage::Saving {
@@ -310,8 +370,12 @@ impl<D: Device> Site<D> {
         requires stage { self.old.core.stage ≡ Stage.Saving Work.SealedSync node }
         requires last { self.old.core.shape.nodes ≤ node + 1 }
         ensures run { OnOk result (Keeps D.state self.old self.new) }
+        ensures lowers { IfOk result (λ turn. Lowers turn self.old self.new) }
+        ensures order { OnOk result (KeepsOrder self.old self.new) }
         ensures told { OnOk result (TellsBy IsOfWorker D.state self.old self.new) }
         ensures refused { OnErr result (self.new.history.events ≡ self.old.history.events) }
+        ensures calm { OnErr result (IsCalm (states_of D.state self.old.bay) (states_of D.state self.new.bay)) }
+        ensures accounted { OnOk result (TellsFaults D.state self.old self.new) }
         ensures fixed { IsSameRun self.old self.new }
         ensures still { IfOk result (λ turn. Stays turn self.old self.new) }
         ensures moved { IfOk result (λ turn. turn ≡ Turn.Moved) }
@@ -339,20 +403,20 @@ impl<D: Device> Site<D> {
         }
     }
 
-    /// A device refused the round, which carries that; the dataset is to be removed. After want of memory all is as before.
-    fn carry(&mut self, trouble: Trouble) -> Result<Turn, SiteError>
-        ensures core { OnOk result ((set : Manifest) × (refusal : Refusal) × (self.old.core.opened ≡ Some set) × (told_trouble trouble ≡ Some refusal) × (self.new.core ≡ dropping_core self.old.core set.desc.which (Some refusal))) }
+    /// A device refused the round, which carries that; this dataset is to be removed. It takes no memory: where the call itself
+    /// found none, all is as before.
+    fn carry(&mut self, which: DataId, trouble: Trouble) -> Result<Turn, SiteError>
+        ensures core { OnOk result ((refusal : Refusal) × (told_trouble trouble ≡ Some refusal) × (self.new.core ≡ dropping_core self.old.core which (Some refusal))) }
         ensures moved { IfOk result (λ turn. turn ≡ Turn.Moved) }
+        ensures memory { OnErr result (trouble ≡ Trouble.Memory) }
         ensures refused { OnErr result (self.new ≡ self.old) }
+        ensures lowers { removal_ahead self.old.core.shape.nodes (length self.old.core.ranks) < stage_ahead self.old.core.stage self.old.core → IfOk result (λ turn. Lowers turn self.old self.new) }
+        ensures order { OnOk result (KeepsOrder self.old self.new) }
         ensures history { self.new.history ≡ self.old.history }
         ensures fixed { IsSameRun self.old self.new }
         ensures bay { self.new.bay ≡ self.old.bay }
     {
         let refusal = trouble.refusal()?;
-        let Some(set) = &self.core.opened else {
-            return Err(SiteError::Memory);
-        };
-        let which = set.desc.which;
         self.core.begin_dropping(which, Some(refusal));
         Ok(Turn::Moved)
     }

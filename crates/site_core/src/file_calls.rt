@@ -8,17 +8,19 @@ ghost use Rattle.member_store.specs.Names.{record_name, part_name};
 ghost use Rattle.member_store.specs.Members.{AreMembers, member_body};
 ghost use Rattle.site_core.specs.Calls.{Same, Written, Synced, Recorded, Turned, Refused, KeptAlike, FileDropped};
 ghost use Rattle.site_core.specs.Causes.{CallCause};
-ghost use Rattle.site_core.specs.Stored.{cells_of, stored_run};
+ghost use Rattle.halt_file.specs.Conditions.{conditions};
+ghost use Rattle.site_core.specs.Stored.{cells_of, stored_run, stored_halt};
 
 use crate::bay_calls::{
-    drop_file_at, load_number, open_gate_at, read_part_at, scan_at, step_number, write_member_at,
-    write_part_at,
+    drop_file_at, load_halt, load_number, open_gate_at, read_part_at, scan_at, step_number,
+    write_member_at, write_part_at,
 };
 use crate::error::{Trouble, trouble_at};
 use crate::removal::Removal;
 use crate::storing::Storing;
 use dataset_desc::Desc;
 use filemap::Filemap;
+use halt_file::Halt;
 use member_store::{Member, MemberGate, Part};
 use node_device::{Bay, DevError, Device};
 use scr_base::{DataId, Shape};
@@ -33,6 +35,18 @@ pub(crate) fn last_run<D: Device>(alloc: Global, bay: &mut Bay<D>) -> Result<u32
     match load_number(alloc, bay) {
         Ok(None) => Ok(0),
         Ok(Some(value)) => Ok(value.version),
+        Err(error) => Err(trouble_at(bay, 32, error)),
+    }
+}
+
+/// The conditions on which jobs are to stop.
+pub(crate) fn halt_now<D: Device>(alloc: Global, bay: &mut Bay<D>) -> Result<Halt, Trouble>
+    ensures halt { IfOk result (λ halt. (states_of D.state bay.old 32).tells ≡ true → conditions halt ≡ stored_halt (cells_of (states_of D.state bay.old))) }
+    ensures same { OnOk result (OnlyAt 32 Same (states_of D.state bay.old) (states_of D.state bay.new)) }
+    ensures cause { CallCause (states_of D.state bay.old) (states_of D.state bay.new) result }
+{
+    match load_halt(alloc, bay) {
+        Ok(halt) => Ok(halt),
         Err(error) => Err(trouble_at(bay, 32, error)),
     }
 }

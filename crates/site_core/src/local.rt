@@ -10,12 +10,13 @@ ghost use Rattle.filemap.specs.Rows.{place_of, is_routed};
 ghost use Rattle.site_core.specs.Choosing.{local_verdict_of, rows_at};
 ghost use Rattle.scr_base.specs.declared.answers.Refusal.{Refusal};
 ghost use Rattle.scr_base.specs.declared.answers.Reply.TheVariants as reply;
-ghost use Rattle.site_core.specs.Causes.{told_trouble};
-ghost use Rattle.site_core.specs.Follows.{Keeps, TellsBy, IsOfRank, IsSameRun, Stays, IsNextLocal, MayTell};
+ghost use Rattle.site_core.specs.Causes.{told_trouble, IsCalm};
+ghost use Rattle.site_core.specs.Ahead.{Lowers};
+ghost use Rattle.site_core.specs.Order.{KeepsOrder};
+ghost use Rattle.site_core.specs.Follows.{Keeps, TellsBy, IsOfRank, IsSameRun, Stays, IsNextLocal, MayTell, TellsFaults};
 
 use crate::core_state::Stage;
 use crate::error::{SiteError, Trouble};
-use crate::events::push;
 use crate::file_calls::{get_part, put_part};
 use crate::site::Site;
 use crate::turn::Turn;
@@ -31,8 +32,12 @@ impl<D: Device> Site<D> {
         requires stage { self.old.core.stage ≡ Stage.Serving }
         requires next { IsNextLocal self.old.programs self.old.core rank step }
         ensures run { OnOk result (Keeps D.state self.old self.new) }
+        ensures lowers { IfOk result (λ turn. Lowers turn self.old self.new) }
+        ensures order { OnOk result (KeepsOrder self.old self.new) }
         ensures told { OnOk result (TellsBy (IsOfRank rank) D.state self.old self.new) }
         ensures refused { OnErr result (self.new.history.events ≡ self.old.history.events) }
+        ensures calm { OnErr result (IsCalm (states_of D.state self.old.bay) (states_of D.state self.new.bay)) }
+        ensures accounted { OnOk result (TellsFaults D.state self.old self.new) }
         ensures fixed { IsSameRun self.old self.new }
         ensures still { IfOk result (λ turn. Stays turn self.old self.new) }
         ensures moved { IfOk result (λ turn. turn ≡ Turn.Moved) }
@@ -50,8 +55,12 @@ impl<D: Device> Site<D> {
         requires next { IsNextLocal self.old.programs self.old.core rank step }
         requires clear { local_verdict_of self.old.core rank step ≡ None }
         ensures run { OnOk result (Keeps D.state self.old self.new) }
+        ensures lowers { IfOk result (λ turn. Lowers turn self.old self.new) }
+        ensures order { OnOk result (KeepsOrder self.old self.new) }
         ensures told { OnOk result (TellsBy (IsOfRank rank) D.state self.old self.new) }
         ensures refused { OnErr result (self.new.history.events ≡ self.old.history.events) }
+        ensures calm { OnErr result (IsCalm (states_of D.state self.old.bay) (states_of D.state self.new.bay)) }
+        ensures accounted { OnOk result (TellsFaults D.state self.old self.new) }
         ensures fixed { IsSameRun self.old self.new }
         ensures still { IfOk result (λ turn. Stays turn self.old self.new) }
         ensures moved { IfOk result (λ turn. turn ≡ Turn.Moved) }
@@ -64,45 +73,47 @@ impl<D: Device> Site<D> {
         }
     }
 
-    /// The step is told with its answer, and the rank goes on.
-    fn go_past(&mut self, rank: u8, step: Step, answer: Reply) -> Result<(), SiteError>
+    /// The step is told with its answer, and the rank goes on. It takes no memory.
+    fn go_past(&mut self, rank: u8, step: Step, answer: Reply)
         requires small { IsSomeAnd (slice_get self.old.core.ranks rank) (λ seat. seat.number + 1 < 2 ^ 32) }
-        ensures events { OnOk result ((seat : Seat) → slice_get self.old.core.ranks rank ≡ Some seat → self.new.history.events ≡ self.old.history.events ++ event.Local rank (seat.number + 1) step answer ∷ []) }
-        ensures core { OnOk result ((seat : Seat) → slice_get self.old.core.ranks rank ≡ Some seat → self.new.core ≡ record self.old.core { ranks = slice_set self.old.core.ranks rank (stepped seat) }) }
-        ensures refused { OnErr result (self.new.history.events ≡ self.old.history.events) }
+        requires room { 2 ≤ self.old.history.spare }
+        ensures events { (seat : Seat) → slice_get self.old.core.ranks rank ≡ Some seat → self.new.history.events ≡ self.old.history.events ++ event.Local rank (seat.number + 1) step answer ∷ [] }
+        ensures core { (seat : Seat) → slice_get self.old.core.ranks rank ≡ Some seat → self.new.core ≡ record self.old.core { ranks = slice_set self.old.core.ranks rank (stepped seat) } }
         ensures fixed { IsSameRun self.old self.new }
         ensures bay { self.new.bay ≡ self.old.bay }
-        ensures memory { OnErr result (result ≡ Err SiteError.Memory) }
     {
         let Some(seat) = self.core.ranks.seat(rank) else {
-            return Err(SiteError::Memory);
+            unreachable!()
         };
         let number = seat.number + 1;
-        push(
-            &mut self.history,
-            Event::Local {
-                rank,
-                number,
-                step,
-                answer,
-            },
-        )?;
+        let Ok(()) = self.history.push(Event::Local {
+            rank,
+            number,
+            step,
+            answer,
+        })
+        else {
+            unreachable!()
+        };
         self.core.ranks.step(rank);
-        Ok(())
     }
 
-    /// A device refused the step, which is told so.
+    /// A device refused the step, which is told so. It takes no memory: where the call itself found none, all is as before.
     fn refuse_local(&mut self, rank: u8, step: Step, trouble: Trouble) -> Result<Turn, SiteError>
         requires small { IsSomeAnd (slice_get self.old.core.ranks rank) (λ seat. seat.number + 1 < 2 ^ 32) }
+        requires room { 2 ≤ self.old.history.spare }
         ensures events { OnOk result ((seat : Seat) → slice_get self.old.core.ranks rank ≡ Some seat → (refusal : Refusal) × (told_trouble trouble ≡ Some refusal) × (self.new.history.events ≡ self.old.history.events ++ event.Local rank (seat.number + 1) step (reply.Refused refusal) ∷ [])) }
         ensures core { OnOk result ((seat : Seat) → slice_get self.old.core.ranks rank ≡ Some seat → self.new.core ≡ record self.old.core { ranks = slice_set self.old.core.ranks rank (stepped seat) }) }
+        ensures lowers { self.old.core.stage ≡ Stage.Serving → IsNextLocal self.old.programs self.old.core rank step → IfOk result (λ turn. Lowers turn self.old self.new) }
+        ensures order { IsNextLocal self.old.programs self.old.core rank step → OnOk result (KeepsOrder self.old self.new) }
         ensures moved { IfOk result (λ turn. turn ≡ Turn.Moved) }
-        ensures refused { OnErr result (self.new.history.events ≡ self.old.history.events) }
+        ensures memory { OnErr result (trouble ≡ Trouble.Memory) }
+        ensures refused { OnErr result (self.new ≡ self.old) }
         ensures fixed { IsSameRun self.old self.new }
         ensures bay { self.new.bay ≡ self.old.bay }
     {
         let refusal = trouble.refusal()?;
-        self.go_past(rank, step, Reply::Refused { refusal })?;
+        self.go_past(rank, step, Reply::Refused { refusal });
         Ok(Turn::Moved)
     }
 
@@ -113,13 +124,18 @@ impl<D: Device> Site<D> {
         requires steps { MayTell D.state self.old rank step answer }
         requires calm { is_fault answer ≡ false }
         ensures run { OnOk result (Keeps D.state self.old self.new) }
+        ensures lowers { IfOk result (λ turn. Lowers turn self.old self.new) }
+        ensures order { OnOk result (KeepsOrder self.old self.new) }
         ensures told { OnOk result (TellsBy (IsOfRank rank) D.state self.old self.new) }
         ensures refused { OnErr result (self.new.history.events ≡ self.old.history.events) }
+        ensures calm { OnErr result (IsCalm (states_of D.state self.old.bay) (states_of D.state self.new.bay)) }
+        ensures accounted { OnOk result (TellsFaults D.state self.old self.new) }
         ensures fixed { IsSameRun self.old self.new }
         ensures still { IfOk result (λ turn. Stays turn self.old self.new) }
         ensures moved { IfOk result (λ turn. turn ≡ Turn.Moved) }
     {
-        self.go_past(rank, step, answer)?;
+        self.history.reserve(2)?;
+        self.go_past(rank, step, answer);
         Ok(Turn::Moved)
     }
 
@@ -129,8 +145,12 @@ impl<D: Device> Site<D> {
         requires next { IsNextLocal self.old.programs self.old.core rank (step.Route word) }
         requires clear { local_verdict_of self.old.core rank (step.Route word) ≡ None }
         ensures run { OnOk result (Keeps D.state self.old self.new) }
+        ensures lowers { IfOk result (λ turn. Lowers turn self.old self.new) }
+        ensures order { OnOk result (KeepsOrder self.old self.new) }
         ensures told { OnOk result (TellsBy (IsOfRank rank) D.state self.old self.new) }
         ensures refused { OnErr result (self.new.history.events ≡ self.old.history.events) }
+        ensures calm { OnErr result (IsCalm (states_of D.state self.old.bay) (states_of D.state self.new.bay)) }
+        ensures accounted { OnOk result (TellsFaults D.state self.old self.new) }
         ensures fixed { IsSameRun self.old self.new }
         ensures still { IfOk result (λ turn. Stays turn self.old self.new) }
         ensures moved { IfOk result (λ turn. turn ≡ Turn.Moved) }
@@ -149,8 +169,12 @@ impl<D: Device> Site<D> {
         requires clear { local_verdict_of self.old.core rank (step.Route word) ≡ None }
         requires there { is_routed (rows_at self.old.core rank) word ≡ true }
         ensures run { OnOk result (Keeps D.state self.old self.new) }
+        ensures lowers { IfOk result (λ turn. Lowers turn self.old self.new) }
+        ensures order { OnOk result (KeepsOrder self.old self.new) }
         ensures told { OnOk result (TellsBy (IsOfRank rank) D.state self.old self.new) }
         ensures refused { OnErr result (self.new.history.events ≡ self.old.history.events) }
+        ensures calm { OnErr result (IsCalm (states_of D.state self.old.bay) (states_of D.state self.new.bay)) }
+        ensures accounted { OnOk result (TellsFaults D.state self.old self.new) }
         ensures fixed { IsSameRun self.old self.new }
         ensures still { IfOk result (λ turn. Stays turn self.old self.new) }
         ensures moved { IfOk result (λ turn. turn ≡ Turn.Moved) }
@@ -170,8 +194,12 @@ impl<D: Device> Site<D> {
         requires clear { local_verdict_of self.old.core rank (step.Route word) ≡ None }
         requires new { is_routed (rows_at self.old.core rank) word ≡ false }
         ensures run { OnOk result (Keeps D.state self.old self.new) }
+        ensures lowers { IfOk result (λ turn. Lowers turn self.old self.new) }
+        ensures order { OnOk result (KeepsOrder self.old self.new) }
         ensures told { OnOk result (TellsBy (IsOfRank rank) D.state self.old self.new) }
         ensures refused { OnErr result (self.new.history.events ≡ self.old.history.events) }
+        ensures calm { OnErr result (IsCalm (states_of D.state self.old.bay) (states_of D.state self.new.bay)) }
+        ensures accounted { OnOk result (TellsFaults D.state self.old self.new) }
         ensures fixed { IsSameRun self.old self.new }
         ensures still { IfOk result (λ turn. Stays turn self.old self.new) }
         ensures moved { IfOk result (λ turn. turn ≡ Turn.Moved) }
@@ -196,7 +224,7 @@ impl<D: Device> Site<D> {
         ) {
             Ok(()) => {
                 self.core.route(rank, &name)?;
-                self.go_past(rank, Step::Route { name: word }, Reply::Routed { part })?;
+                self.go_past(rank, Step::Route { name: word }, Reply::Routed { part });
                 Ok(Turn::Moved)
             }
             Err(trouble) => self.refuse_local(rank, Step::Route { name: word }, trouble),
@@ -209,8 +237,12 @@ impl<D: Device> Site<D> {
         requires next { IsNextLocal self.old.programs self.old.core rank (step.Write word at content) }
         requires clear { local_verdict_of self.old.core rank (step.Write word at content) ≡ None }
         ensures run { OnOk result (Keeps D.state self.old self.new) }
+        ensures lowers { IfOk result (λ turn. Lowers turn self.old self.new) }
+        ensures order { OnOk result (KeepsOrder self.old self.new) }
         ensures told { OnOk result (TellsBy (IsOfRank rank) D.state self.old self.new) }
         ensures refused { OnErr result (self.new.history.events ≡ self.old.history.events) }
+        ensures calm { OnErr result (IsCalm (states_of D.state self.old.bay) (states_of D.state self.new.bay)) }
+        ensures accounted { OnOk result (TellsFaults D.state self.old self.new) }
         ensures fixed { IsSameRun self.old self.new }
         ensures still { IfOk result (λ turn. Stays turn self.old self.new) }
         ensures moved { IfOk result (λ turn. turn ≡ Turn.Moved) }
@@ -238,7 +270,7 @@ impl<D: Device> Site<D> {
         ) {
             Ok(()) => {
                 self.core.extend(rank, file, end)?;
-                self.go_past(rank, step, Reply::Done)?;
+                self.go_past(rank, step, Reply::Done);
                 Ok(Turn::Moved)
             }
             Err(trouble) => self.refuse_local(rank, step, trouble),
@@ -251,8 +283,12 @@ impl<D: Device> Site<D> {
         requires next { IsNextLocal self.old.programs self.old.core rank (step.Read word at len) }
         requires clear { local_verdict_of self.old.core rank (step.Read word at len) ≡ None }
         ensures run { OnOk result (Keeps D.state self.old self.new) }
+        ensures lowers { IfOk result (λ turn. Lowers turn self.old self.new) }
+        ensures order { OnOk result (KeepsOrder self.old self.new) }
         ensures told { OnOk result (TellsBy (IsOfRank rank) D.state self.old self.new) }
         ensures refused { OnErr result (self.new.history.events ≡ self.old.history.events) }
+        ensures calm { OnErr result (IsCalm (states_of D.state self.old.bay) (states_of D.state self.new.bay)) }
+        ensures accounted { OnOk result (TellsFaults D.state self.old self.new) }
         ensures fixed { IsSameRun self.old self.new }
         ensures still { IfOk result (λ turn. Stays turn self.old self.new) }
         ensures moved { IfOk result (λ turn. turn ≡ Turn.Moved) }
@@ -269,6 +305,7 @@ impl<D: Device> Site<D> {
         let Ok(mut bytes) = vec![in self.alloc; 0u8; count as usize] else {
             return Err(SiteError::Memory);
         };
+        self.history.reserve(2)?;
         let step = Step::Read {
             name: word,
             at,
@@ -285,13 +322,20 @@ impl<D: Device> Site<D> {
         ) {
             Ok(()) => {
                 let bytes = Bytes::of(bytes);
-                self.go_past(rank, step, Reply::Bytes { bytes })?;
+                self.go_past(rank, step, Reply::Bytes { bytes });
                 Ok(Turn::Moved)
             }
             Err(Trouble::Fault { node, count }) => {
                 self.refuse_local(rank, step, Trouble::Fault { node, count })
             }
-            Err(_) => Err(SiteError::Memory),
+            Err(Trouble::Memory) => Err(SiteError::Memory),
+            Err(
+                Trouble::Full {
+                    node: _,
+                    used: _,
+                    capacity: _,
+                },
+            ) => Err(SiteError::Memory),
         }
     }
 }

@@ -1,7 +1,6 @@
 // The moves of the recoverer: the run's number is stored, the records are read, and what was found is looked after.
-ghost use Rattle.std.specs.Prelude.{◌≡◌, ◌+◌, ◌<◌, ◌≤◌, ◌^◌, length, IfOk, OnOk, OnErr};
+ghost use Rattle.std.specs.Prelude.{◌≡◌, ◌+◌, ◌<◌, ◌≤◌, ◌^◌, length, IfOk, OnOk, OnErr, [], ◌++◌, ◌∷◌, map, filter};
 ghost use Rattle.node_device.specs.Rack.{states_of};
-ghost use Rattle.std.specs.Prelude.{[], ◌++◌, ◌∷◌, map, filter, IfOk};
 ghost use Rattle.ckpt_model.specs.declared.event.Event.TheVariants as event;
 ghost use Rattle.site_core.specs.Shown.{row_of};
 ghost use Rattle.site_core.specs.Cores.{recovered, seen_core};
@@ -9,13 +8,16 @@ ghost use Rattle.site_core.specs.Looks.{is_standing, found_member};
 ghost use Rattle.site_core.specs.Waiting.{recoverer_turn};
 ghost use Rattle.site_core.specs.Calls.{TellsAll};
 ghost use Rattle.site_core.specs.Stored.{cells_of, stored_run};
-ghost use Rattle.site_core.specs.Follows.{Keeps, TellsBy, IsOfWorker, IsSameRun, Stays};
+ghost use Rattle.site_core.specs.Ahead.{Lowers};
+ghost use Rattle.site_core.specs.Order.{KeepsOrder};
+ghost use Rattle.site_core.specs.Follows.{Keeps, TellsBy, IsOfWorker, IsSameRun, Stays, TellsFaults};
+ghost use Rattle.site_core.specs.Causes.{IsCalm};
 
 use crate::cache::Cache;
 use crate::core_state::Stage;
 use crate::error::SiteError;
 use crate::events::push;
-use crate::file_calls::{last_run, members_at, store_number};
+use crate::file_calls::{halt_now, last_run, members_at, store_number};
 use crate::site::Site;
 use crate::turn::{Turn, Why};
 use ckpt_model::{EntryRow, Event, StopCause};
@@ -35,8 +37,12 @@ impl<D: Device> Site<D> {
     /// The recoverer's turn.
     pub(crate) fn recover(&mut self) -> Result<Turn, SiteError>
         ensures run { OnOk result (Keeps D.state self.old self.new) }
+        ensures lowers { IfOk result (λ turn. Lowers turn self.old self.new) }
+        ensures order { OnOk result (KeepsOrder self.old self.new) }
         ensures told { OnOk result (TellsBy IsOfWorker D.state self.old self.new) }
         ensures refused { OnErr result (self.new.history.events ≡ self.old.history.events) }
+        ensures calm { OnErr result (IsCalm (states_of D.state self.old.bay) (states_of D.state self.new.bay)) }
+        ensures accounted { OnOk result (TellsFaults D.state self.old self.new) }
         ensures fixed { IsSameRun self.old self.new }
         ensures still { IfOk result (λ turn. Stays turn self.old self.new) }
         ensures waits { IfOk result (λ turn. turn ≡ recoverer_turn self.old.core.stage) }
@@ -57,12 +63,17 @@ impl<D: Device> Site<D> {
     fn begin_run(&mut self) -> Result<Turn, SiteError>
         requires { self.old.core.stage ≡ Stage.Begun }
         ensures run { OnOk result (Keeps D.state self.old self.new) }
+        ensures lowers { IfOk result (λ turn. Lowers turn self.old self.new) }
+        ensures order { OnOk result (KeepsOrder self.old self.new) }
         ensures told { OnOk result (TellsBy IsOfWorker D.state self.old self.new) }
         ensures refused { OnErr result (self.new.history.events ≡ self.old.history.events) }
+        ensures calm { OnErr result (IsCalm (states_of D.state self.old.bay) (states_of D.state self.new.bay)) }
+        ensures accounted { OnOk result (TellsFaults D.state self.old self.new) }
         ensures fixed { IsSameRun self.old self.new }
         ensures still { IfOk result (λ turn. Stays turn self.old self.new) }
         ensures moved { IfOk result (λ turn. turn ≡ Turn.Moved) }
     {
+        self.history.reserve(2)?;
         match last_run(self.alloc, &mut self.bay) {
             Ok(last) => self.take_number(last),
             Err(trouble) => self.stop_by(trouble),
@@ -73,18 +84,48 @@ impl<D: Device> Site<D> {
     fn take_number(&mut self, last: u32) -> Result<Turn, SiteError>
         requires stage { self.old.core.stage ≡ Stage.Begun }
         requires last { TellsAll D.state → last ≡ stored_run (cells_of (states_of D.state self.old.bay)) }
+        requires room { 2 ≤ self.old.history.spare }
         ensures run { OnOk result (Keeps D.state self.old self.new) }
+        ensures lowers { IfOk result (λ turn. Lowers turn self.old self.new) }
+        ensures order { OnOk result (KeepsOrder self.old self.new) }
         ensures told { OnOk result (TellsBy IsOfWorker D.state self.old self.new) }
         ensures refused { OnErr result (self.new.history.events ≡ self.old.history.events) }
+        ensures calm { OnErr result (IsCalm (states_of D.state self.old.bay) (states_of D.state self.new.bay)) }
+        ensures accounted { OnOk result (TellsFaults D.state self.old self.new) }
         ensures fixed { IsSameRun self.old self.new }
+        ensures still { IfOk result (λ turn. Stays turn self.old self.new) }
         ensures moved { IfOk result (λ turn. turn ≡ Turn.Moved) }
-        ensures bay { self.new.bay ≡ self.old.bay }
     {
         if last == u32::MAX {
             self.run_out_of_numbers()
         } else {
-            self.core.number(self.alloc, last + 1);
-            Ok(Turn::Moved)
+            self.take_halt(last)
+        }
+    }
+
+    /// The conditions on which the job is to stop are read, and the run has the number after the last one.
+    fn take_halt(&mut self, last: u32) -> Result<Turn, SiteError>
+        requires stage { self.old.core.stage ≡ Stage.Begun }
+        requires last { TellsAll D.state → last ≡ stored_run (cells_of (states_of D.state self.old.bay)) }
+        requires more { last < 4294967295 }
+        requires room { 2 ≤ self.old.history.spare }
+        ensures run { OnOk result (Keeps D.state self.old self.new) }
+        ensures lowers { IfOk result (λ turn. Lowers turn self.old self.new) }
+        ensures order { OnOk result (KeepsOrder self.old self.new) }
+        ensures told { OnOk result (TellsBy IsOfWorker D.state self.old self.new) }
+        ensures refused { OnErr result (self.new.history.events ≡ self.old.history.events) }
+        ensures calm { OnErr result (IsCalm (states_of D.state self.old.bay) (states_of D.state self.new.bay)) }
+        ensures accounted { OnOk result (TellsFaults D.state self.old self.new) }
+        ensures fixed { IsSameRun self.old self.new }
+        ensures still { IfOk result (λ turn. Stays turn self.old self.new) }
+        ensures moved { IfOk result (λ turn. turn ≡ Turn.Moved) }
+    {
+        match halt_now(self.alloc, &mut self.bay) {
+            Ok(halt) => {
+                self.core.number(self.alloc, last + 1, halt);
+                Ok(Turn::Moved)
+            }
+            Err(trouble) => self.stop_by(trouble),
         }
     }
 
@@ -94,8 +135,12 @@ impl<D: Device> Site<D> {
         requires last { TellsAll D.state → stored_run (cells_of (states_of D.state self.old.bay)) ≡ 4294967295 }
         ensures bay { self.new.bay ≡ self.old.bay }
         ensures run { OnOk result (Keeps D.state self.old self.new) }
+        ensures lowers { IfOk result (λ turn. Lowers turn self.old self.new) }
+        ensures order { OnOk result (KeepsOrder self.old self.new) }
         ensures told { OnOk result (TellsBy IsOfWorker D.state self.old self.new) }
         ensures refused { OnErr result (self.new.history.events ≡ self.old.history.events) }
+        ensures calm { OnErr result (IsCalm (states_of D.state self.old.bay) (states_of D.state self.new.bay)) }
+        ensures accounted { OnOk result (TellsFaults D.state self.old self.new) }
         ensures fixed { IsSameRun self.old self.new }
         ensures still { IfOk result (λ turn. Stays turn self.old self.new) }
         ensures moved { IfOk result (λ turn. turn ≡ Turn.Moved) }
@@ -114,8 +159,12 @@ impl<D: Device> Site<D> {
     fn store(&mut self) -> Result<Turn, SiteError>
         requires { self.old.core.stage ≡ Stage.Storing }
         ensures run { OnOk result (Keeps D.state self.old self.new) }
+        ensures lowers { IfOk result (λ turn. Lowers turn self.old self.new) }
+        ensures order { OnOk result (KeepsOrder self.old self.new) }
         ensures told { OnOk result (TellsBy IsOfWorker D.state self.old self.new) }
         ensures refused { OnErr result (self.new.history.events ≡ self.old.history.events) }
+        ensures calm { OnErr result (IsCalm (states_of D.state self.old.bay) (states_of D.state self.new.bay)) }
+        ensures accounted { OnOk result (TellsFaults D.state self.old self.new) }
         ensures fixed { IsSameRun self.old self.new }
         ensures still { IfOk result (λ turn. Stays turn self.old self.new) }
         ensures moved { IfOk result (λ turn. turn ≡ Turn.Moved) }
@@ -142,8 +191,12 @@ impl<D: Device> Site<D> {
     fn look(&mut self) -> Result<Turn, SiteError>
         requires { self.old.core.stage ≡ Stage.Looking }
         ensures run { OnOk result (Keeps D.state self.old self.new) }
+        ensures lowers { IfOk result (λ turn. Lowers turn self.old self.new) }
+        ensures order { OnOk result (KeepsOrder self.old self.new) }
         ensures told { OnOk result (TellsBy IsOfWorker D.state self.old self.new) }
         ensures refused { OnErr result (self.new.history.events ≡ self.old.history.events) }
+        ensures calm { OnErr result (IsCalm (states_of D.state self.old.bay) (states_of D.state self.new.bay)) }
+        ensures accounted { OnOk result (TellsFaults D.state self.old self.new) }
         ensures fixed { IsSameRun self.old self.new }
         ensures still { IfOk result (λ turn. Stays turn self.old self.new) }
         ensures moved { IfOk result (λ turn. turn ≡ Turn.Moved) }
@@ -161,6 +214,8 @@ impl<D: Device> Site<D> {
     /// What the records told is found, and told.
     fn find(&mut self, members: Vec<Member>) -> Result<Turn, SiteError>
         ensures found { OnOk result (self.new.core ≡ recovered (seen_core self.old.core (map found_member (filter is_standing members.items)))) }
+        ensures lowers { self.old.core.stage ≡ Stage.Looking → IfOk result (λ turn. Lowers turn self.old self.new) }
+        ensures order { OnOk result (KeepsOrder self.old self.new) }
         ensures events { OnOk result (self.new.history.events ≡ self.old.history.events ++ event.Found (map row_of (map found_member (filter is_standing members.items))) [] ∷ []) }
         ensures moved { IfOk result (λ turn. turn ≡ Turn.Moved) }
         ensures refused { OnErr result (self.new.history.events ≡ self.old.history.events) }
@@ -183,8 +238,12 @@ impl<D: Device> Site<D> {
     fn mend(&mut self) -> Result<Turn, SiteError>
         requires { self.old.core.stage ≡ Stage.Mending }
         ensures run { OnOk result (Keeps D.state self.old self.new) }
+        ensures lowers { IfOk result (λ turn. Lowers turn self.old self.new) }
+        ensures order { OnOk result (KeepsOrder self.old self.new) }
         ensures told { OnOk result (TellsBy IsOfWorker D.state self.old self.new) }
         ensures refused { OnErr result (self.new.history.events ≡ self.old.history.events) }
+        ensures calm { OnErr result (IsCalm (states_of D.state self.old.bay) (states_of D.state self.new.bay)) }
+        ensures accounted { OnOk result (TellsFaults D.state self.old self.new) }
         ensures fixed { IsSameRun self.old self.new }
         ensures still { IfOk result (λ turn. Stays turn self.old self.new) }
         ensures moved { IfOk result (λ turn. turn ≡ Turn.Moved) }

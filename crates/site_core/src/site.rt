@@ -72,7 +72,10 @@ impl<D: Device> Site<D> {
     ghost use Rattle.site_core.specs.Shown.{setup_of};
     ghost use Rattle.site_core.specs.Waiting.{turn_of, flusher_turn};
     ghost use Rattle.site_core.specs.Asking.{program_of, takes_steps, lengthened, IsWithinLimit};
-    ghost use Rattle.site_core.specs.Follows.{Keeps, Follows, Stands, Ends, WasCut, HasStopped, TellsBy, IsOf, IsActor, IsSameRun, IsHalted, Stays, Counts};
+    ghost use Rattle.site_core.specs.Ahead.{Lowers};
+    ghost use Rattle.site_core.specs.Order.{IsInOrder, KeepsOrder};
+    ghost use Rattle.site_core.specs.Causes.{IsCalm};
+    ghost use Rattle.site_core.specs.Follows.{Keeps, Follows, Stands, Ends, WasCut, HasStopped, TellsBy, AccountsBy, IsOf, IsActor, IsSameRun, IsHalted, Stays, Counts};
 
     /// Begins a run over a bay, which it leaves as it is. The bay comes back where there is no memory. The places are those of
     /// the nodes in their order, and each rank has a program.
@@ -95,6 +98,7 @@ impl<D: Device> Site<D> {
         ensures places { IfOk result (λ site. site.core.places ≡ places.items) }
         ensures programs { IfOk result (λ site. site.programs ≡ map (λ program. program.items) programs.items) }
         ensures ranks { IfOk result (λ site. length site.core.ranks ≡ shape.nodes * shape.ranks) }
+        ensures order { IfOk result (λ site. IsInOrder site.programs site.core.ranks) }
         ensures follows { IfOk result (λ site. (first : Machine) → Stands (record { shape = shape; config = config }) (states_of D.state bay) first → Follows D.state first site) }
     {
         let mut history = History::new(alloc);
@@ -118,8 +122,12 @@ impl<D: Device> Site<D> {
     pub fn turn(&mut self, actor: Actor) -> Result<Turn, SiteError>
         requires { IsActor (length self.old.core.ranks) actor }
         ensures run { OnOk result (Keeps D.state self.old self.new) }
+        ensures lowers { IfOk result (λ turn. Lowers turn self.old self.new) }
+        ensures order { OnOk result (KeepsOrder self.old self.new) }
         ensures told { OnOk result (TellsBy (IsOf actor) D.state self.old self.new) }
         ensures refused { OnErr result (self.new.history.events ≡ self.old.history.events) }
+        ensures calm { OnErr result (IsCalm (states_of D.state self.old.bay) (states_of D.state self.new.bay)) }
+        ensures accounted { OnOk result (AccountsBy actor D.state self.old self.new) }
         ensures fixed { IsSameRun self.old self.new }
         ensures still { IfOk result (λ turn. Stays turn self.old self.new) }
         ensures waits { IfOk result (λ turn. turn ≡ turn_of self.old.core self.old.programs actor) }
@@ -139,8 +147,12 @@ impl<D: Device> Site<D> {
     fn take_turn(&mut self, actor: Actor) -> Result<Turn, SiteError>
         requires { IsActor (length self.old.core.ranks) actor }
         ensures run { OnOk result (Keeps D.state self.old self.new) }
+        ensures lowers { IfOk result (λ turn. Lowers turn self.old self.new) }
+        ensures order { OnOk result (KeepsOrder self.old self.new) }
         ensures told { OnOk result (TellsBy (IsOf actor) D.state self.old self.new) }
         ensures refused { OnErr result (self.new.history.events ≡ self.old.history.events) }
+        ensures calm { OnErr result (IsCalm (states_of D.state self.old.bay) (states_of D.state self.new.bay)) }
+        ensures accounted { OnOk result (AccountsBy actor D.state self.old self.new) }
         ensures fixed { IsSameRun self.old self.new }
         ensures still { IfOk result (λ turn. Stays turn self.old self.new) }
         ensures waits { IfOk result (λ turn. turn ≡ turn_of self.old.core self.old.programs actor) }
@@ -188,6 +200,7 @@ impl<D: Device> Site<D> {
         ensures asked { OnOk result (self.new ≡ record self.old { programs = lengthened self.old.programs rank step }) }
         ensures refused { OnErr result (self.new ≡ self.old) }
         ensures run { Keeps D.state self.old self.new }
+        ensures order { KeepsOrder self.old self.new }
     {
         self.programs.ask(rank, step)?;
         Ok(())
@@ -199,6 +212,7 @@ impl<D: Device> Site<D> {
         ensures halted { 1 ≤ self.old.history.spare → (HasStopped self.old → ⊥) → IsHalted self.old self.new }
         ensures sound { IsHalted self.old self.new ⊎ (self.new ≡ self.old) }
         ensures run { Keeps D.state self.old self.new }
+        ensures order { KeepsOrder self.old self.new }
     {
         if self.stopped() {
             return;

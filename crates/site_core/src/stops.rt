@@ -1,24 +1,31 @@
 // The ends of a run that a device brings.
-ghost use Rattle.std.specs.Prelude.{◌≡◌, ◌++◌, ◌∷◌, [], true, IfOk, OnOk, OnErr};
+ghost use Rattle.std.specs.Prelude.{◌≡◌, ◌++◌, ◌∷◌, [], true, false, IfOk, OnOk, OnErr, ◌≤◌};
 ghost use Rattle.ckpt_model.specs.declared.event.Event.TheVariants as event;
 ghost use Rattle.site_core.specs.Causes.{cause_of, is_told, is_device_fault};
+ghost use Rattle.site_core.specs.Waiting.{is_over};
+ghost use Rattle.site_core.specs.Ahead.{Lowers};
+ghost use Rattle.site_core.specs.Order.{KeepsOrder};
 ghost use Rattle.site_core.specs.Follows.{IsSameRun};
 
 use crate::core_state::Stage;
 use crate::error::{SiteError, Trouble};
-use crate::events::push;
 use crate::site::Site;
 use crate::turn::Turn;
 use ckpt_model::{Event, StopCause};
 use node_device::Device;
 
 impl<D: Device> Site<D> {
-    /// A device refused a call without which the run can't go on: it is over. After want of memory all is as before.
+    /// A device refused a call without which the run can't go on: it is over, which takes no memory. Where the call itself found
+    /// none, all is as before.
     pub(crate) fn stop_by(&mut self, trouble: Trouble) -> Result<Turn, SiteError>
+        requires { 2 ≤ self.old.history.spare }
         ensures events { OnOk result (self.new.history.events ≡ self.old.history.events ++ event.Stop (cause_of trouble) ∷ []) }
         ensures core { OnOk result (self.new.core ≡ record self.old.core { stage = Stage.Cut }) }
+        ensures lowers { is_over self.old.core.stage ≡ false → IfOk result (λ turn. Lowers turn self.old self.new) }
+        ensures order { OnOk result (KeepsOrder self.old self.new) }
         ensures moved { IfOk result (λ turn. turn ≡ Turn.Moved) }
         ensures told { OnOk result (is_told trouble ≡ true) }
+        ensures memory { OnErr result (trouble ≡ Trouble.Memory) }
         ensures refused { OnErr result (self.new ≡ self.old) }
         ensures fixed { IsSameRun self.old self.new }
         ensures bay { self.new.bay ≡ self.old.bay }
@@ -36,17 +43,24 @@ impl<D: Device> Site<D> {
                 capacity,
             },
         };
-        push(&mut self.history, Event::Stop { cause })?;
+        let Ok(()) = self.history.push(Event::Stop { cause }) else {
+            unreachable!()
+        };
         self.core.stage = Stage::Cut;
         Ok(Turn::Moved)
     }
 
-    /// A device failed at a call that no full device refuses: the run is over. After want of memory all is as before.
+    /// A device failed at a call that no full device refuses: the run is over, which takes no memory. Where the call itself found
+    /// none, all is as before.
     pub(crate) fn stop_by_fault(&mut self, trouble: Trouble) -> Result<Turn, SiteError>
+        requires { 2 ≤ self.old.history.spare }
         ensures events { OnOk result (self.new.history.events ≡ self.old.history.events ++ event.Stop (cause_of trouble) ∷ []) }
         ensures core { OnOk result (self.new.core ≡ record self.old.core { stage = Stage.Cut }) }
+        ensures lowers { is_over self.old.core.stage ≡ false → IfOk result (λ turn. Lowers turn self.old self.new) }
+        ensures order { OnOk result (KeepsOrder self.old self.new) }
         ensures moved { IfOk result (λ turn. turn ≡ Turn.Moved) }
         ensures fault { OnOk result (is_device_fault trouble ≡ true) }
+        ensures no_fault { OnErr result (is_device_fault trouble ≡ false) }
         ensures refused { OnErr result (self.new ≡ self.old) }
         ensures fixed { IsSameRun self.old self.new }
         ensures bay { self.new.bay ≡ self.old.bay }

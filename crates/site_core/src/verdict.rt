@@ -8,7 +8,7 @@ ghost use Rattle.ckpt_model.specs.Answers.{is_fault};
 ghost use Rattle.scr_base.specs.declared.answers.Reply.TheVariants as reply;
 ghost use Rattle.filemap.specs.Rows.{IsRows, is_routed, place_of};
 ghost use Rattle.round_core.specs.Seats.{is_complete};
-ghost use Rattle.site_core.specs.Choosing.{verdict_of, local_verdict_of, named_in, set_in, newest_of, newer_with, is_settled_one, rows_at, at_hand, lacks_file, is_over_limit};
+ghost use Rattle.site_core.specs.Choosing.{verdict_of, local_verdict_of, named_in, set_in, newest_of, newer_with, is_settled_one, is_due, rows_at, at_hand, lacks_file, is_over_limit};
 
 use crate::cache::{Cache, Cached, Manifest, Mark};
 use crate::core_state::Core;
@@ -16,7 +16,7 @@ use crate::error::SiteError;
 use crate::rows::{place_in, rows_of};
 use filemap::FileRow;
 use round_core::{phase_allows, step_is_valid};
-use scr_base::{Content, DataId, Name, NameError, Phase, Refusal, Step, Word};
+use scr_base::{Config, Content, DataId, Name, NameError, Phase, Refusal, Step, Word};
 use std::alloc::Global;
 
 /// Whether the word is a name.
@@ -79,6 +79,14 @@ impl Cache {
             best = newer(best, set);
         }
         best
+    }
+
+    /// The smallest identity of a dataset that is to be flushed.
+    pub(crate) fn due(&self, config: Config) -> Option<DataId>
+        ensures { result ≡ option_map (λ set. set.manifest.desc.which) (find (is_due config) self.now) }
+    {
+        let set = self.list().iter().find(|set| set.is_due(config))?;
+        Some(set.manifest.desc.which)
     }
 
     /// Whether this dataset is in cache, settled.

@@ -6,6 +6,8 @@ use Rattle.round_core.specs.declared.seat.Seat.{Seat}
 use Rattle.round_core.specs.Seats.{next_number}
 use Rattle.site_core.proofs.Told.{appended}
 use Rattle.site_core.proofs.Serving.{called_on, some_same}
+use Rattle.site_core.proofs.AheadCores.{calls_lower}
+use Rattle.site_core.proofs.InOrder.{called_order}
 use Rattle.site_core.proofs.site.Site.call.Goals as goal
 
 pub number_after-number-requires : goal.number_after-number-requires
@@ -23,3 +25,11 @@ returns-clause-run g c = λ tells first f.
     let told = appended c.push.new.history.events s.history.events s.history.events (event.Call c.args.rank c.number_after-number.result c.in_ok-told.told) (event.Call c.args.rank (next_number next.seat) c.args.step) c.in_ok-push.ensures.events refl
     (ap (λ (n : ℕ). event.Call c.args.rank n c.in_ok-told.told) number ∙ ap (λ (x : Step). event.Call c.args.rank (next_number next.seat) x) c.in_ok-told.ensures) in
     called_on first s.core s.programs (states_of g.D.Device.state s.bay) s.history.events c.push.new.history.events c.args.rank c.args.step c.arrive.new.self c.requires.stage next c.arrive.ensures told f
+
+pub returns-clause-lowers : goal.returns-clause-lowers
+returns-clause-lowers g c =
+    let s = c.args.self.now in
+    calls_lower s.core s.programs c.args.rank c.args.step c.arrive.new.self c.requires.stage c.requires.next c.arrive.ensures
+
+pub returns-clause-order : goal.returns-clause-order
+returns-clause-order g c = called_order c.args.self.now.programs c.args.self.now.core c.arrive.new.self c.args.rank c.args.step c.requires.next c.arrive.ensures

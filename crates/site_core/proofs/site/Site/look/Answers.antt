@@ -11,6 +11,7 @@ use Rattle.site_core.proofs.Telling.{tells_of, same_states, on_ok, on_ok2, on_ok
 use Rattle.site_core.proofs.LocalSteps.{lead_on}
 use Rattle.site_core.proofs.Turns.{ends_looking, tells_end, tells_one, moved_stays}
 use Rattle.site_core.proofs.Seen.{seen}
+use Rattle.site_core.specs.Waiting.{is_over}
 use Rattle.site_core.proofs.site.Site.look.Goals as goal
 
 pub returns-in-Ok-clause-run : goal.returns-in-Ok-clause-run
@@ -46,3 +47,9 @@ returns-in-Err-clause-told g c = on_ok2 c.stop_by.result (λ e t. tells_end g.D.
 
 pub returns-in-Err-clause-still : goal.returns-in-Err-clause-still
 returns-in-Err-clause-still g c = moved_stays c.args.self.now c.stop_by.new.self c.stop_by.result c.stop_by.ensures.moved
+
+pub returns-in-Ok-clause-lowers : goal.returns-in-Ok-clause-lowers
+returns-in-Ok-clause-lowers g c = c.find.ensures.lowers c.requires
+
+pub returns-in-Err-clause-lowers : goal.returns-in-Err-clause-lowers
+returns-in-Err-clause-lowers g c = c.stop_by.ensures.lowers (ap is_over c.requires)

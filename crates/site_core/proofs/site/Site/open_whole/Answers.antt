@@ -1,4 +1,4 @@
-use Rattle.std.proofs.Common.{sym, subst}
+use Rattle.std.proofs.Common.{sym, subst, refl, ap}
 use Rattle.scr_base.specs.declared.shape.DataId.{DataId}
 use Rattle.node_device.specs.Rack.{states_of, OnlyAt}
 use Rattle.member_store.specs.Names.{record_name}
@@ -7,10 +7,13 @@ use Rattle.site_core.specs.declared.core_state.Work.TheVariants as work
 use Rattle.site_core.proofs.Saving.{saving_leads}
 use Rattle.site_core.proofs.SaveMoves.{whole_turned}
 use Rattle.site_core.proofs.Works.{saves_now, saved_is}
-use Rattle.site_core.proofs.Telling.{tells_all}
-use Rattle.site_core.proofs.Telling.{on_ok2, on_ok3}
+use Rattle.site_core.proofs.Telling.{tells_all, on_ok2, on_ok3}
 use Rattle.site_core.proofs.Refusals.{fault_is_told}
 use Rattle.site_core.proofs.Turns.{ends_saving, tells_end, moved_stays}
+use Rattle.site_core.proofs.AheadCores.{opened_lower}
+use Rattle.site_core.specs.declared.core_state.Stage.TheVariants as stage
+use Rattle.site_core.specs.Waiting.{is_over}
+use Rattle.site_core.proofs.Told.{behind, with_room}
 use Rattle.site_core.proofs.site.Site.open_whole.Goals as goal
 
 pub returns-in-Ok-clause-run : goal.returns-in-Ok-clause-run
@@ -21,16 +24,24 @@ returns-in-Ok-clause-run g c = λ tells first f.
     let h = saves_now first s.core s.programs old s.history.events work.Whole c.args.node c.requires.stage f in
     let which = saved_is first s.core s.programs old s.history.events work.Whole c.args.node h.0 c.in-Some-saved.which h.1 c.in-Some-saved.ensures in
     let turned = subst (λ (w : DataId). OnlyAt c.in-Some.place (Turned (record_name w c.args.node) 0) old new) which c.in-Ok.ensures.turned in
-    saving_leads first s.core s.programs new s.history.events work.WholeSync c.args.node h.0
-    (whole_turned first s.core s.programs old new s.history.events c.args.node h.0 c.in-Some.place (sym c.in-Some.ensures.place) h.1 turned (tells_all g.D.Device.state tells s.bay))
+    with_room c.reserve.ensures.events (saving_leads first s.core s.programs new s.history.events work.WholeSync c.args.node h.0
+    (whole_turned first s.core s.programs old new s.history.events c.args.node h.0 c.in-Some.place (sym c.in-Some.ensures.place) h.1 turned (tells_all g.D.Device.state tells s.bay)))
 
 pub returns-in-Err-clause-run : goal.returns-in-Err-clause-run
-returns-in-Err-clause-run g c = on_ok3 c.stop_by_fault.result (λ e k t. ends_saving g.D.Device.state c.args.self.now c.stop_by_fault.new.self c.in-Err.trouble e k c.stop_by_fault.ensures.fixed.programs work.Whole c.args.node c.requires.stage t)
+returns-in-Err-clause-run g c = on_ok3 c.stop_by_fault.result (λ e k t. ends_saving g.D.Device.state c.args.self.now c.stop_by_fault.new.self c.in-Err.trouble (behind _ e c.reserve.ensures.events) k c.stop_by_fault.ensures.fixed.programs work.Whole c.args.node c.requires.stage t)
     c.stop_by_fault.ensures.events c.stop_by_fault.ensures.core c.stop_by_fault.ensures.fault
 
 pub returns-in-Err-clause-told : goal.returns-in-Err-clause-told
-returns-in-Err-clause-told g c = on_ok2 c.stop_by_fault.result (λ e t. tells_end g.D.Device.state c.args.self.now c.stop_by_fault.new.self c.in-Err.trouble e (Unit {0}) c.put_gate.new.bay c.stop_by_fault.ensures.bay (fault_is_told c.in-Err.trouble t) c.in-Err.ensures.cause)
+returns-in-Err-clause-told g c = on_ok2 c.stop_by_fault.result (λ e t. tells_end g.D.Device.state c.args.self.now c.stop_by_fault.new.self c.in-Err.trouble (behind _ e c.reserve.ensures.events) (Unit {0}) c.put_gate.new.bay c.stop_by_fault.ensures.bay (fault_is_told c.in-Err.trouble t) c.in-Err.ensures.cause)
     c.stop_by_fault.ensures.events c.stop_by_fault.ensures.fault
 
 pub returns-in-Err-clause-still : goal.returns-in-Err-clause-still
 returns-in-Err-clause-still g c = moved_stays c.args.self.now c.stop_by_fault.new.self c.stop_by_fault.result c.stop_by_fault.ensures.moved
+
+pub returns-in-Ok-clause-lowers : goal.returns-in-Ok-clause-lowers
+returns-in-Ok-clause-lowers g c =
+    let s = c.args.self.now in
+    opened_lower s.core (record s.core { stage = stage.Saving work.WholeSync c.args.node }) s.programs refl refl c.args.node c.requires.stage refl
+
+pub returns-in-Err-clause-lowers : goal.returns-in-Err-clause-lowers
+returns-in-Err-clause-lowers g c = c.stop_by_fault.ensures.lowers (ap is_over c.requires.stage)

@@ -3,6 +3,8 @@ use Rattle.ckpt_model.specs.declared.event.Event.TheVariants as event
 use Rattle.node_device.specs.Rack.{states_of}
 use Rattle.site_core.proofs.Told.{appended}
 use Rattle.site_core.proofs.Serving.{replied}
+use Rattle.site_core.proofs.AheadCores.{replied_lower}
+use Rattle.site_core.proofs.InOrder.{freed_order}
 use Rattle.site_core.proofs.site.Site.reply.Goals as goal
 
 pub returns-clause-run : goal.returns-clause-run
@@ -19,3 +21,11 @@ returns-clause-told g c =
     let e = event.Reply c.args.rank c.in-Some.seat.now.number c.in-Some-take_reply.answer in
     let told = appended c.push.new.self.events c.reserve.new.self.events s.history.events e e c.in_ok-push.ensures.events c.reserve.ensures.events Rattle.std.proofs.Common.refl in
     record { told = e ∷ []; few = omega arith; is = told; own = (Rattle.std.proofs.Common.refl, tt); caused = (tt, tt) }
+
+pub returns-clause-lowers : goal.returns-clause-lowers
+returns-clause-lowers g c =
+    let s = c.args.self.now in
+    replied_lower s.core s.programs c.args.rank c.in-Some-take_reply.answer c.take_reply.new.self c.requires.stage c.in-Some-take_reply.ensures.some
+
+pub returns-clause-order : goal.returns-clause-order
+returns-clause-order g c = freed_order c.args.self.now.programs c.args.self.now.core.ranks c.take_reply.new.self c.args.rank c.in-Some-take_reply.answer c.in-Some-take_reply.ensures.some

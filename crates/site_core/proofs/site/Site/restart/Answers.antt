@@ -4,6 +4,7 @@ use Rattle.scr_base.specs.declared.content.Step.TheVariants as step
 use Rattle.node_device.specs.Rack.{states_of}
 use Rattle.site_core.proofs.Serving.{closed_phase, rests_closed}
 use Rattle.site_core.proofs.Rounds.{restarts}
+use Rattle.site_core.proofs.AheadCores.{clear_calls}
 use Rattle.site_core.proofs.site.Site.restart.Goals as goal
 
 pub tell_round-requires-clause-steps : goal.tell_round-requires-clause-steps
@@ -11,3 +12,6 @@ tell_round-requires-clause-steps g c = λ first f.
     let s = c.args.self.now in
     let round = c.requires.round in
     (closed_phase s.core phase.Restart (rests_closed first s.core s.programs (states_of g.D.Device.state s.bay) s.history.events step.Restart c.requires.stage f round refl), λ bytes. restarts c.args.self.now.core bytes c.in-Some.which round.complete round.first round.clear c.in-Some.is (sym c.if-not-has_settled.ensures))
+
+pub tell_round-requires-clause-calls : goal.tell_round-requires-clause-calls
+tell_round-requires-clause-calls g c = clear_calls c.args.self.now.core step.Restart c.requires.round refl

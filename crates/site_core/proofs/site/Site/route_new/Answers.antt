@@ -10,15 +10,19 @@ use Rattle.round_core.specs.Seats.{stepped}
 use Rattle.site_core.specs.Choosing.{rows_at}
 use Rattle.site_core.specs.Cores.{with_rows, with_open}
 use Rattle.site_core.specs.declared.core_state.Core.{Core}
-use Rattle.site_core.proofs.Told.{appended}
+use Rattle.site_core.proofs.Told.{appended, behind}
 use Rattle.site_core.proofs.LocalCalls.{clear_new}
 use Rattle.site_core.proofs.LocalSteps.{route_told, each_tells, hand_opened, lead_on}
 use Rattle.site_core.proofs.Telling.{on_ok2}
 use Rattle.site_core.proofs.LocalRefusals.{keeps_put}
+use Rattle.site_core.proofs.AheadCores.{stepped_run}
+use Rattle.site_core.proofs.InOrder.{stepped_order}
+use Rattle.site_core.specs.Follows.{carried}
+use Rattle.site_core.proofs.Accounts.{well_then, refusal_told, carries_same}
 use Rattle.site_core.proofs.site.Site.route_new.Goals as goal
 
-pub returns-in_ok-go_past-in-Ok-put_part-clause-run : goal.returns-in_ok-go_past-in-Ok-put_part-clause-run
-returns-in_ok-go_past-in-Ok-put_part-clause-run g c = λ tells first follows.
+pub returns-in_ok-route-in-Ok-put_part-clause-run : goal.returns-in_ok-route-in-Ok-put_part-clause-run
+returns-in_ok-route-in-Ok-put_part-clause-run g c = λ tells first follows.
     let s = c.args.self.now in
     let state = g.D.Device.state in
     let n = c.requires.next in
@@ -30,9 +34,9 @@ returns-in_ok-go_past-in-Ok-put_part-clause-run g c = λ tells first follows.
     let here : slice_get c.route.new.self.ranks rank ≡ Some n.seat = ap (λ (x : Core). slice_get x.ranks rank) c.route.ensures.rest ∙ n.is in
     let number = c.number_of-file.ensures.number ∙ ap (λ (w : List ℕ). place_of (rows_at s.core rank) w) c.bytes.ensures.value in
     let e = event.Local rank (n.seat.number + 1) (step.Route c.args.word) (reply.Routed c.in_ok-part.part) in
-    let more = appended after.history.events c.reserve.new.self.events s.history.events e e (c.in_ok-go_past-in-Ok-put_part.ensures.events n.seat here) c.reserve.ensures.events refl in
+    let more = appended after.history.events c.reserve.new.self.events s.history.events e e (c.go_past.ensures.events n.seat here) c.reserve.ensures.events refl in
     let opened = hand_opened s.core m (clear_new s.core rank c.args.word c.requires.clear c.requires.new).output c.in-Some.ensures.hand in
-    let core = c.in_ok-go_past-in-Ok-put_part.ensures.core n.seat here
+    let core = c.go_past.ensures.core n.seat here
     ∙ ap (λ (x : Core). let y : Core = record x { ranks = slice_set x.ranks rank (stepped n.seat) } in y) (c.in_ok-route-in-Ok-put_part.ensures.ok m opened)
     ∙ ap (λ (w : List ℕ). with_open s.core (with_rows m rank (routed old w)) (slice_set s.core.ranks rank (stepped n.seat))) (c.in-Ok.ensures.ok ∙ c.bytes-2.ensures.value) in
     lead_on first (with_open s.core (with_rows m rank (routed old c.args.word)) (slice_set s.core.ranks rank (stepped n.seat))) after.core s.programs after.programs (states_of state c.put_part.new.bay) (states_of state after.bay) after.history.events
@@ -40,13 +44,13 @@ returns-in_ok-go_past-in-Ok-put_part-clause-run g c = λ tells first follows.
     (route_told first s.core s.programs (states_of state s.bay) (states_of state c.put_part.new.bay) s.history.events after.history.events rank file c.args.word c.in_ok-part.part c.in-Some.spot
     c.requires.stage n c.requires.clear c.requires.new c.in-Some.ensures number c.number_of-file.ensures.within c.number_of-file.ensures.rows c.in_ok-part.ensures c.in-Ok-put_part.ensures.written (λ p low. each_tells state s.bay tells p) more follows)
 
-pub returns-in_ok-go_past-in-Ok-put_part-clause-told : goal.returns-in_ok-go_past-in-Ok-put_part-clause-told
-returns-in_ok-go_past-in-Ok-put_part-clause-told g c =
+pub returns-in_ok-route-in-Ok-put_part-clause-told : goal.returns-in_ok-route-in-Ok-put_part-clause-told
+returns-in_ok-route-in-Ok-put_part-clause-told g c =
     let s = c.args.self.now in
     let n = c.requires.next in
     let here : slice_get c.route.new.self.ranks c.args.rank ≡ Some n.seat = ap (λ (x : Core). slice_get x.ranks c.args.rank) c.route.ensures.rest ∙ n.is in
     let e = event.Local c.args.rank (n.seat.number + 1) (step.Route c.args.word) (reply.Routed c.in_ok-part.part) in
-    record { told = e ∷ []; few = omega arith; is = appended c.go_past.new.self.history.events c.reserve.new.self.events s.history.events e e (c.in_ok-go_past-in-Ok-put_part.ensures.events n.seat here) c.reserve.ensures.events refl; own = (refl, tt); caused = (tt, tt) }
+    record { told = e ∷ []; few = omega arith; is = appended c.go_past.new.self.history.events c.reserve.new.self.events s.history.events e e (c.go_past.ensures.events n.seat here) c.reserve.ensures.events refl; own = (refl, tt); caused = (tt, tt) }
 
 pub returns-in-Err-clause-run : goal.returns-in-Err-clause-run
 returns-in-Err-clause-run g c = on_ok2 c.refuse_local.result (λ e k.
@@ -57,4 +61,31 @@ returns-in-Err-clause-run g c = on_ok2 c.refuse_local.result (λ e k.
     keeps_put g.D.Device.state s c.refuse_local.new.self c.put_part.new.bay c.args.rank (step.Route c.args.word) c.in-Err.trouble x.0 n.seat c.refuse_local.ensures.bay x.1 n.is
     (appended c.refuse_local.new.self.history.events c.reserve.new.self.events s.history.events l l x.2 c.reserve.ensures.events refl) (k n.seat n.is) c.refuse_local.ensures.fixed.programs c.requires.stage n c.requires.clear refl
     c.number_of-file.result c.in-Some.spot ((clear_new s.core c.args.rank c.args.word c.requires.clear c.requires.new).output) c.in-Some.ensures c.number_of-file.ensures.within c.in-Err.ensures.refused)
+    c.refuse_local.ensures.events c.refuse_local.ensures.core
+
+pub returns-in_ok-route-in-Ok-put_part-clause-lowers : goal.returns-in_ok-route-in-Ok-put_part-clause-lowers
+returns-in_ok-route-in-Ok-put_part-clause-lowers g c = stepped_run c.args.self.now c.go_past.new.self c.route.new.self c.args.rank (step.Route c.args.word) c.requires.next c.requires.stage (ap (λ (x : Core). x.stage) c.route.ensures.rest ∙ c.requires.stage) (ap (λ (x : Core). x.shape) c.route.ensures.rest) (ap (λ (x : Core). x.ranks) c.route.ensures.rest) c.go_past.ensures.fixed.programs c.go_past.ensures.core
+
+pub returns-in-Err-clause-lowers : goal.returns-in-Err-clause-lowers
+returns-in-Err-clause-lowers g c = c.refuse_local.ensures.lowers c.requires.stage c.requires.next
+
+pub returns-in_ok-route-in-Ok-put_part-clause-order : goal.returns-in_ok-route-in-Ok-put_part-clause-order
+returns-in_ok-route-in-Ok-put_part-clause-order g c = stepped_order c.args.self.now c.go_past.new.self c.route.new.self c.args.rank (step.Route c.args.word) c.requires.next (ap (λ (x : Core). x.ranks) c.route.ensures.rest) c.go_past.ensures.fixed.programs c.go_past.ensures.core
+
+pub returns-in-Err-clause-order : goal.returns-in-Err-clause-order
+returns-in-Err-clause-order g c = c.refuse_local.ensures.order c.requires.next
+
+pub returns-in_ok-route-in-Ok-put_part-clause-accounted : goal.returns-in_ok-route-in-Ok-put_part-clause-accounted
+returns-in_ok-route-in-Ok-put_part-clause-accounted g c =
+    let s = c.args.self.now in
+    let n = c.requires.next in
+    let here : slice_get c.route.new.self.ranks c.args.rank ≡ Some n.seat = ap (λ (x : Core). slice_get x.ranks c.args.rank) c.route.ensures.rest ∙ n.is in
+    well_then c.put_part.new.bay c.go_past.ensures.bay c.in-Ok-put_part.ensures.cause (carries_same s.core c.go_past.new.self.core (ap carried (c.go_past.ensures.core n.seat here) ∙ ap carried c.route.ensures.rest))
+
+pub returns-in-Err-clause-accounted : goal.returns-in-Err-clause-accounted
+returns-in-Err-clause-accounted g c = on_ok2 c.refuse_local.result (λ e k.
+    let s = c.args.self.now in
+    let n = c.requires.next in
+    let x = e n.seat n.is in
+    refusal_told g.D.Device.state s c.refuse_local.new.self c.put_part.new.bay c.refuse_local.ensures.bay (Unit {0}) c.in-Err.trouble x.0 c.args.rank (n.seat.number + 1) (step.Route c.args.word) x.1 c.in-Err.ensures.cause (behind _ x.2 c.reserve.ensures.events) (carries_same s.core c.refuse_local.new.self.core (ap carried (k n.seat n.is))))
     c.refuse_local.ensures.events c.refuse_local.ensures.core

@@ -18,6 +18,10 @@ use Rattle.site_core.proofs.Telling.{on_ok2, on_ok3}
 use Rattle.site_core.proofs.Refusals.{fault_is_told}
 use Rattle.site_core.proofs.Turns.{ends_saving, tells_end, moved_stays}
 use Rattle.site_core.specs.Causes.{cause_of}
+use Rattle.site_core.proofs.AheadCores.{sealed_lower, ends_lower}
+use Rattle.site_core.specs.Waiting.{is_over}
+use Rattle.site_core.specs.Order.{IsInOrder}
+use Rattle.round_core.specs.declared.seat.Seat.{Seat}
 use Rattle.site_core.proofs.site.Site.seal_first.Goals as goal
 
 pub returns-in_ok-push-in-Ok-clause-run : goal.returns-in_ok-push-in-Ok-clause-run
@@ -51,3 +55,19 @@ returns-in_ok-push-in-Ok-clause-told g c =
     let s = c.args.self.now in
     let e = event.Sealing c.in-Some-opened.m.desc.which in
     record { told = e ∷ []; few = omega arith; is = appended c.push.new.self.events c.reserve.new.self.events s.history.events e e c.in_ok-push-in-Ok.ensures.events c.reserve.ensures.events refl; own = (tt, tt); caused = (tt, tt) }
+
+pub returns-in_ok-push-in-Ok-clause-lowers : goal.returns-in_ok-push-in-Ok-clause-lowers
+returns-in_ok-push-in-Ok-clause-lowers g c =
+    let s = c.args.self.now in
+    let x : Core = record c.seal.new.self { stage = stage.Saving work.SealedSync c.args.node } in
+    sealed_lower s.core x s.programs c.seal.ensures.same.shape c.seal.ensures.same.ranks c.args.node c.requires.stage refl
+
+pub returns-in-Err-clause-lowers : goal.returns-in-Err-clause-lowers
+returns-in-Err-clause-lowers g c =
+    let s = c.args.self.now in
+    ends_lower s c.stop_by_fault.new.self (record s.core { kept = c.reserve-2.new.self }) c.stop_by_fault.result (ap is_over c.requires.stage) refl refl c.stop_by_fault.ensures.fixed.programs c.stop_by_fault.ensures.moved c.stop_by_fault.ensures.core
+
+pub returns-in_ok-push-in-Ok-clause-order : goal.returns-in_ok-push-in-Ok-clause-order
+returns-in_ok-push-in-Ok-clause-order g c = λ order.
+    let s = c.args.self.now in
+    subst (λ (rs : List Seat). IsInOrder s.programs rs) (sym (c.seal.ensures.same.ranks)) order

@@ -1,4 +1,4 @@
-use Rattle.std.proofs.Common.{refl, ◌∷◌, [], arith, ◌≡◌, ◌∙◌, sym, subst, ap}
+use Rattle.std.proofs.Common.{refl, ◌∷◌, [], arith, ◌≡◌, ◌∙◌, sym, subst, ap, ◌<◌, List}
 use Rattle.scr_base.specs.declared.shape.DataId.{DataId}
 use Rattle.ckpt_model.specs.declared.event.Event.TheVariants as event
 use Rattle.node_device.specs.Rack.{states_of}
@@ -13,6 +13,11 @@ use Rattle.site_core.proofs.Telling.{on_ok2, on_ok3}
 use Rattle.site_core.proofs.Refusals.{fault_is_told}
 use Rattle.site_core.proofs.Turns.{ends_saving, tells_end, moved_stays}
 use Rattle.site_core.specs.Causes.{cause_of}
+use Rattle.site_core.proofs.AheadCores.{settled_lower}
+use Rattle.site_core.specs.Waiting.{is_over}
+use Rattle.site_core.specs.Ahead.{ahead}
+use Rattle.site_core.specs.Order.{IsInOrder}
+use Rattle.round_core.specs.declared.seat.Seat.{Seat}
 use Rattle.site_core.proofs.site.Site.settle.Goals as goal
 
 pub returns-in_ok-push-in-Ok-clause-run : goal.returns-in_ok-push-in-Ok-clause-run
@@ -42,3 +47,16 @@ returns-in_ok-push-in-Ok-clause-told g c =
     let s = c.args.self.now in
     let e = event.Settled c.in-Some-saved.which in
     record { told = e ∷ []; few = omega arith; is = appended c.push.new.self.events c.reserve.new.self.events s.history.events e e c.in_ok-push-in-Ok.ensures.events c.reserve.ensures.events refl; own = (tt, tt); caused = (tt, tt) }
+
+pub returns-in_ok-push-in-Ok-clause-lowers : goal.returns-in_ok-push-in-Ok-clause-lowers
+returns-in_ok-push-in-Ok-clause-lowers g c =
+    let s = c.args.self.now in
+    subst (λ (x : Core). ahead x s.programs < ahead s.core s.programs) (sym c.settle.ensures) (settled_lower s.core s.programs c.args.node c.in-Some-saved.which c.requires.stage c.in-None.is)
+
+pub returns-in-Err-clause-lowers : goal.returns-in-Err-clause-lowers
+returns-in-Err-clause-lowers g c = c.stop_by_fault.ensures.lowers (ap is_over c.requires.stage)
+
+pub returns-in_ok-push-in-Ok-clause-order : goal.returns-in_ok-push-in-Ok-clause-order
+returns-in_ok-push-in-Ok-clause-order g c = λ order.
+    let s = c.args.self.now in
+    subst (λ (rs : List Seat). IsInOrder s.programs rs) (sym (ap (λ (x : Core). x.ranks) c.settle.ensures)) order

@@ -9,6 +9,8 @@ use Rattle.site_core.proofs.Stored.{stepped, arrived}
 use Rattle.site_core.specs.Causes.{cause_of}
 use Rattle.site_core.proofs.Telling.{on_ok2, on_ok3}
 use Rattle.site_core.proofs.Turns.{ends_storing, tells_end, moved_stays}
+use Rattle.site_core.proofs.AheadCores.{nearer_lower, stored_lower, ends_lower}
+use Rattle.site_core.specs.Waiting.{is_over}
 use Rattle.site_core.proofs.site.Site.store.Goals as goal
 
 pub returns-then-not-over-clause-run : goal.returns-then-not-over-clause-run
@@ -41,3 +43,18 @@ returns-in_ok-push-in-Ok-clause-told g c =
     let s = c.args.self.now in
     let e = event.Run s.core.run c.in_ok-places.places in
     record { told = e ∷ []; few = omega arith; is = appended c.push.new.self.events c.reserve.new.self.events s.history.events e e c.in_ok-push-in-Ok.ensures.events c.reserve.ensures.events refl; own = (tt, tt); caused = (tt, tt) }
+
+pub returns-then-not-over-clause-lowers : goal.returns-then-not-over-clause-lowers
+returns-then-not-over-clause-lowers g c =
+    let s = c.args.self.now in
+    nearer_lower s.core s.programs c.store_number.new.storing c.requires (c.in-Ok.ensures.steps.here.fewer c.if-not-over.true)
+
+pub returns-in_ok-push-in-Ok-clause-lowers : goal.returns-in_ok-push-in-Ok-clause-lowers
+returns-in_ok-push-in-Ok-clause-lowers g c =
+    let s = c.args.self.now in
+    stored_lower s.core s.programs c.store_number.new.storing c.requires
+
+pub returns-in-Err-clause-lowers : goal.returns-in-Err-clause-lowers
+returns-in-Err-clause-lowers g c =
+    let s = c.args.self.now in
+    ends_lower s c.stop_by.new.self (record s.core { storing = c.store_number.new.storing }) c.stop_by.result (ap is_over c.requires) refl refl c.stop_by.ensures.fixed.programs c.stop_by.ensures.moved c.stop_by.ensures.core

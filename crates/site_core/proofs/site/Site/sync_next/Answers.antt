@@ -1,4 +1,4 @@
-use Rattle.std.proofs.Common.{sym, arith, ◌+◌}
+use Rattle.std.proofs.Common.{sym, arith, ◌+◌, refl, ap}
 use Rattle.node_device.specs.Rack.{states_of}
 use Rattle.site_core.specs.declared.core_state.Work.TheVariants as work
 use Rattle.site_core.proofs.Saving.{saving_leads}
@@ -7,6 +7,10 @@ use Rattle.site_core.proofs.Works.{saves_now}
 use Rattle.site_core.proofs.Telling.{on_ok2, on_ok3}
 use Rattle.site_core.proofs.Refusals.{fault_is_told}
 use Rattle.site_core.proofs.Turns.{ends_saving, tells_end, moved_stays}
+use Rattle.site_core.proofs.AheadCores.{next_lower}
+use Rattle.site_core.specs.declared.core_state.Stage.TheVariants as stage
+use Rattle.site_core.specs.Waiting.{is_over}
+use Rattle.site_core.proofs.Told.{behind, with_room}
 use Rattle.site_core.proofs.site.Site.sync_next.Goals as goal
 
 pub returns-in-Ok-clause-run : goal.returns-in-Ok-clause-run
@@ -15,16 +19,24 @@ returns-in-Ok-clause-run g c = λ tells first f.
     let old = states_of g.D.Device.state s.bay in
     let new = states_of g.D.Device.state c.sync_node.new.bay in
     let h = saves_now first s.core s.programs old s.history.events work.SealedSync c.args.node c.requires.stage f in
-    saving_leads first s.core s.programs new s.history.events work.Sealed (c.args.node + 1) h.0
-    (sealed_synced first s.core s.programs old new s.history.events c.args.node h.0 c.in-Some.place (sym c.in-Some.ensures.place) (omega (arith, c.requires.more)) h.1 c.in-Ok.ensures.synced)
+    with_room c.reserve.ensures.events (saving_leads first s.core s.programs new s.history.events work.Sealed (c.args.node + 1) h.0
+    (sealed_synced first s.core s.programs old new s.history.events c.args.node h.0 c.in-Some.place (sym c.in-Some.ensures.place) (omega (arith, c.requires.more)) h.1 c.in-Ok.ensures.synced))
 
 pub returns-in-Err-clause-run : goal.returns-in-Err-clause-run
-returns-in-Err-clause-run g c = on_ok3 c.stop_by_fault.result (λ e k t. ends_saving g.D.Device.state c.args.self.now c.stop_by_fault.new.self c.in-Err.trouble e k c.stop_by_fault.ensures.fixed.programs work.SealedSync c.args.node c.requires.stage t)
+returns-in-Err-clause-run g c = on_ok3 c.stop_by_fault.result (λ e k t. ends_saving g.D.Device.state c.args.self.now c.stop_by_fault.new.self c.in-Err.trouble (behind _ e c.reserve.ensures.events) k c.stop_by_fault.ensures.fixed.programs work.SealedSync c.args.node c.requires.stage t)
     c.stop_by_fault.ensures.events c.stop_by_fault.ensures.core c.stop_by_fault.ensures.fault
 
 pub returns-in-Err-clause-told : goal.returns-in-Err-clause-told
-returns-in-Err-clause-told g c = on_ok2 c.stop_by_fault.result (λ e t. tells_end g.D.Device.state c.args.self.now c.stop_by_fault.new.self c.in-Err.trouble e (Unit {0}) c.sync_node.new.bay c.stop_by_fault.ensures.bay (fault_is_told c.in-Err.trouble t) c.in-Err.ensures.cause)
+returns-in-Err-clause-told g c = on_ok2 c.stop_by_fault.result (λ e t. tells_end g.D.Device.state c.args.self.now c.stop_by_fault.new.self c.in-Err.trouble (behind _ e c.reserve.ensures.events) (Unit {0}) c.sync_node.new.bay c.stop_by_fault.ensures.bay (fault_is_told c.in-Err.trouble t) c.in-Err.ensures.cause)
     c.stop_by_fault.ensures.events c.stop_by_fault.ensures.fault
 
 pub returns-in-Err-clause-still : goal.returns-in-Err-clause-still
 returns-in-Err-clause-still g c = moved_stays c.args.self.now c.stop_by_fault.new.self c.stop_by_fault.result c.stop_by_fault.ensures.moved
+
+pub returns-in-Ok-clause-lowers : goal.returns-in-Ok-clause-lowers
+returns-in-Ok-clause-lowers g c =
+    let s = c.args.self.now in
+    next_lower s.core (record s.core { stage = stage.Saving work.Sealed (c.args.node + 1) }) s.programs refl refl c.args.node c.requires.stage refl c.requires.more
+
+pub returns-in-Err-clause-lowers : goal.returns-in-Err-clause-lowers
+returns-in-Err-clause-lowers g c = c.stop_by_fault.ensures.lowers (ap is_over c.requires.stage)

@@ -1,8 +1,8 @@
-use Rattle.std.proofs.Common.{Some, List, ◌∙◌, ap, ◌≡◌, sym, subst}
+use Rattle.std.proofs.Common.{Some, List, ap, ◌≡◌, sym, subst, refl}
 use Rattle.node_device.specs.Rack.{states_of}
 use Rattle.site_core.specs.declared.core_state.Stage.{Stage}
 use Rattle.site_core.specs.declared.core_state.Work.TheVariants as work
-use Rattle.site_core.specs.Holds.{Leads}
+use Rattle.site_core.specs.Holds.{IsSaving, Leads}
 use Rattle.site_core.proofs.Saving.{staged}
 use Rattle.site_core.proofs.Works.{saves_now, record_after, opened_is}
 use Rattle.ckpt_model.specs.Track.{Track}
@@ -13,6 +13,7 @@ use Rattle.site_core.proofs.LocalSteps.{lead_on}
 use Rattle.site_core.proofs.Refusals.{told_faults}
 use Rattle.site_core.proofs.Removing.{carried_sync}
 use Rattle.site_core.specs.declared.cache.Manifest.{Manifest}
+use Rattle.site_core.proofs.AheadCores.{record_done, record_sync_over}
 use Rattle.site_core.proofs.site.Site.sync_record.Goals as goal
 
 pub returns-in-Ok-clause-run : goal.returns-in-Ok-clause-run
@@ -32,11 +33,18 @@ returns-in-Err-clause-run g c = on_ok c.carry.result (λ x tells first f.
     let new = states_of state c.sync_node.new.bay in
     let after = c.carry.new.self in
     let q = saves_now first s.core s.programs old s.history.events work.RecordSync c.args.node c.requires.stage f in
-    let m = q.0 in
-    let h = q.1 in
-    let same : x.0 ≡ m = opened_is first s.core s.programs old s.history.events work.RecordSync c.args.node m x.0 h x.2 in
-    let opened : s.core.opened ≡ Some m = x.2 ∙ ap (λ (y : Manifest). Some y) same in
-    let l = carried_sync first s.core s.programs old new s.history.events c.args.node m c.in-Some.place (sym c.in-Some.ensures.place) x.1 opened (told_faults c.in-Err.trouble x.1 x.3) h c.in-Err.ensures.refused in
+    let m = c.in-Some-opened.m in
+    let one : m ≡ q.0 = opened_is first s.core s.programs old s.history.events work.RecordSync c.args.node q.0 m q.1 c.in-Some-opened.is in
+    let h = subst (λ (y : Manifest). IsSaving first s.core s.programs old s.history.events work.RecordSync c.args.node y) (sym one) q.1 in
+    let l = carried_sync first s.core s.programs old new s.history.events c.args.node m c.in-Some.place (sym c.in-Some.ensures.place) x.0 c.in-Some-opened.is (told_faults c.in-Err.trouble x.0 x.1) h c.in-Err.ensures.refused in
     subst (λ (es : List Event). Leads first after.core after.programs (states_of state after.bay) es) (sym (ap (λ (t : Track). t.events) c.carry.ensures.history))
-    (lead_on first (dropping_core s.core m.desc.which (Some x.1)) after.core s.programs after.programs new (states_of state after.bay) s.history.events (x.4 ∙ ap (λ (y : Manifest). dropping_core s.core y.desc.which (Some x.1)) same) c.carry.ensures.fixed.programs (ap (states_of state) c.carry.ensures.bay) l))
+    (lead_on first (dropping_core s.core m.desc.which (Some x.0)) after.core s.programs after.programs new (states_of state after.bay) s.history.events x.2 c.carry.ensures.fixed.programs (ap (states_of state) c.carry.ensures.bay) l))
     c.carry.ensures.core
+
+pub returns-in-Ok-clause-lowers : goal.returns-in-Ok-clause-lowers
+returns-in-Ok-clause-lowers g c =
+    let s = c.args.self.now in
+    record_done s.core (record s.core { stage = c.after-self.result }) s.programs refl refl c.args.node c.requires.stage c.after-self.ensures
+
+pub returns-in-Err-clause-lowers : goal.returns-in-Err-clause-lowers
+returns-in-Err-clause-lowers g c = c.carry.ensures.lowers (record_sync_over c.args.self.now.core c.args.node c.requires.stage)

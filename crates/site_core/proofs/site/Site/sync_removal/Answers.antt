@@ -1,4 +1,4 @@
-use Rattle.std.proofs.Common.{◌+◌, ◌-◌, sym, subst}
+use Rattle.std.proofs.Common.{◌+◌, ◌-◌, sym, subst, ◌<◌, ap, List, ◌∙◌}
 use Rattle.std.specs.Prelude.{nat_lt, if◌then◌else◌}
 use Rattle.node_device.specs.Rack.{states_of}
 use Rattle.site_core.specs.Cores.{next_drop_core}
@@ -9,6 +9,13 @@ use Rattle.site_core.specs.declared.core_state.Stage.TheVariants as stage
 use Rattle.site_core.proofs.Removing.{removal_synced}
 use Rattle.site_core.proofs.DroppedRounds.{ends_dropping}
 use Rattle.site_core.proofs.Telling.{on_ok3}
+use Rattle.site_core.proofs.AheadCores.{dropped_lower}
+use Rattle.site_core.specs.Waiting.{is_over}
+use Rattle.site_core.specs.Ahead.{ahead}
+use Rattle.site_core.specs.Order.{IsInOrder}
+use Rattle.round_core.specs.declared.seat.Seat.{Seat}
+use Rattle.site_core.proofs.InOrder.{dropped_ranks}
+use Rattle.site_core.proofs.Told.{behind, with_room}
 use Rattle.site_core.proofs.site.Site.sync_removal.Goals as goal
 
 pub returns-in-Ok-clause-run : goal.returns-in-Ok-clause-run
@@ -18,9 +25,23 @@ returns-in-Ok-clause-run g c = λ tells first f.
     let new = states_of g.D.Device.state c.sync_node.new.bay in
     let n = c.args.node in
     let next : Core = if nat_lt n (s.core.shape.nodes - 1) then next_drop_core s.core (n + 1) else record s.core { stage = stage.Dropped } in
-    subst (λ (x : Core). Leads first x s.programs new s.history.events) (sym {b = next} c.drop_after.ensures)
-    (removal_synced first s.core s.programs old new s.history.events n c.in-Some.place c.requires.stage (sym c.in-Some.ensures.place) f c.in-Ok.ensures.synced)
+    with_room c.reserve.ensures.events (subst (λ (x : Core). Leads first x s.programs new s.history.events) (sym {b = next} c.drop_after.ensures)
+    (removal_synced first s.core s.programs old new s.history.events n c.in-Some.place c.requires.stage (sym c.in-Some.ensures.place) f c.in-Ok.ensures.synced))
 
 pub returns-in-Err-clause-run : goal.returns-in-Err-clause-run
-returns-in-Err-clause-run g c = on_ok3 c.stop_by_fault.result (λ e k t. ends_dropping g.D.Device.state c.args.self.now c.stop_by_fault.new.self c.in-Err.trouble e k c.stop_by_fault.ensures.fixed.programs drop.Sync c.args.node c.requires.stage t)
+returns-in-Err-clause-run g c = on_ok3 c.stop_by_fault.result (λ e k t. ends_dropping g.D.Device.state c.args.self.now c.stop_by_fault.new.self c.in-Err.trouble (behind _ e c.reserve.ensures.events) k c.stop_by_fault.ensures.fixed.programs drop.Sync c.args.node c.requires.stage t)
     c.stop_by_fault.ensures.events c.stop_by_fault.ensures.core c.stop_by_fault.ensures.fault
+
+pub returns-in-Ok-clause-lowers : goal.returns-in-Ok-clause-lowers
+returns-in-Ok-clause-lowers g c =
+    let s = c.args.self.now in
+    let next : Core = if nat_lt c.args.node (s.core.shape.nodes - 1) then next_drop_core s.core (c.args.node + 1) else record s.core { stage = stage.Dropped } in
+    subst (λ (x : Core). ahead x s.programs < ahead s.core s.programs) (sym {b = next} c.drop_after.ensures) (dropped_lower s.core s.programs c.args.node c.requires.stage)
+
+pub returns-in-Err-clause-lowers : goal.returns-in-Err-clause-lowers
+returns-in-Err-clause-lowers g c = c.stop_by_fault.ensures.lowers (ap is_over c.requires.stage)
+
+pub returns-in-Ok-clause-order : goal.returns-in-Ok-clause-order
+returns-in-Ok-clause-order g c = λ order.
+    let s = c.args.self.now in
+    subst (λ (rs : List Seat). IsInOrder s.programs rs) (sym (ap (λ (x : Core). x.ranks) c.drop_after.ensures ∙ dropped_ranks c.args.self.now.core c.args.node)) order

@@ -1,4 +1,4 @@
-use Rattle.std.proofs.Common.{sym, subst}
+use Rattle.std.proofs.Common.{sym, subst, refl, ap}
 use Rattle.node_device.specs.Rack.{states_of}
 use Rattle.site_core.specs.declared.core_state.Stage.{Stage}
 use Rattle.site_core.specs.declared.core_state.Work.TheVariants as work
@@ -8,6 +8,9 @@ use Rattle.site_core.proofs.Works.{saves_now, whole_after}
 use Rattle.site_core.proofs.Telling.{on_ok2, on_ok3}
 use Rattle.site_core.proofs.Refusals.{fault_is_told}
 use Rattle.site_core.proofs.Turns.{ends_saving, tells_end, moved_stays}
+use Rattle.site_core.proofs.AheadCores.{whole_done}
+use Rattle.site_core.specs.Waiting.{is_over}
+use Rattle.site_core.proofs.Told.{behind, with_room}
 use Rattle.site_core.proofs.site.Site.sync_whole.Goals as goal
 
 pub returns-in-Ok-clause-run : goal.returns-in-Ok-clause-run
@@ -17,15 +20,23 @@ returns-in-Ok-clause-run g c = λ tells first f.
     let new = states_of g.D.Device.state c.sync_node.new.bay in
     let h = saves_now first s.core s.programs old s.history.events work.WholeSync c.args.node c.requires.stage f in
     let l = whole_after first s.core s.programs old new s.history.events c.args.node c.in-Some.place (sym c.in-Some.ensures.place) c.in-Ok.ensures.synced h.0 h.1 in
-    subst (λ (x : Stage). Leads first (staged s.core x) s.programs new s.history.events) (sym c.after-self.ensures) l
+    with_room c.reserve.ensures.events (subst (λ (x : Stage). Leads first (staged s.core x) s.programs new s.history.events) (sym c.after-self.ensures) l)
 
 pub returns-in-Err-clause-run : goal.returns-in-Err-clause-run
-returns-in-Err-clause-run g c = on_ok3 c.stop_by_fault.result (λ e k t. ends_saving g.D.Device.state c.args.self.now c.stop_by_fault.new.self c.in-Err.trouble e k c.stop_by_fault.ensures.fixed.programs work.WholeSync c.args.node c.requires.stage t)
+returns-in-Err-clause-run g c = on_ok3 c.stop_by_fault.result (λ e k t. ends_saving g.D.Device.state c.args.self.now c.stop_by_fault.new.self c.in-Err.trouble (behind _ e c.reserve.ensures.events) k c.stop_by_fault.ensures.fixed.programs work.WholeSync c.args.node c.requires.stage t)
     c.stop_by_fault.ensures.events c.stop_by_fault.ensures.core c.stop_by_fault.ensures.fault
 
 pub returns-in-Err-clause-told : goal.returns-in-Err-clause-told
-returns-in-Err-clause-told g c = on_ok2 c.stop_by_fault.result (λ e t. tells_end g.D.Device.state c.args.self.now c.stop_by_fault.new.self c.in-Err.trouble e (Unit {0}) c.sync_node.new.bay c.stop_by_fault.ensures.bay (fault_is_told c.in-Err.trouble t) c.in-Err.ensures.cause)
+returns-in-Err-clause-told g c = on_ok2 c.stop_by_fault.result (λ e t. tells_end g.D.Device.state c.args.self.now c.stop_by_fault.new.self c.in-Err.trouble (behind _ e c.reserve.ensures.events) (Unit {0}) c.sync_node.new.bay c.stop_by_fault.ensures.bay (fault_is_told c.in-Err.trouble t) c.in-Err.ensures.cause)
     c.stop_by_fault.ensures.events c.stop_by_fault.ensures.fault
 
 pub returns-in-Err-clause-still : goal.returns-in-Err-clause-still
 returns-in-Err-clause-still g c = moved_stays c.args.self.now c.stop_by_fault.new.self c.stop_by_fault.result c.stop_by_fault.ensures.moved
+
+pub returns-in-Ok-clause-lowers : goal.returns-in-Ok-clause-lowers
+returns-in-Ok-clause-lowers g c =
+    let s = c.args.self.now in
+    whole_done s.core (record s.core { stage = c.after-self.result }) s.programs refl refl c.args.node c.requires.stage c.after-self.ensures
+
+pub returns-in-Err-clause-lowers : goal.returns-in-Err-clause-lowers
+returns-in-Err-clause-lowers g c = c.stop_by_fault.ensures.lowers (ap is_over c.requires.stage)

@@ -10,11 +10,15 @@ use Rattle.round_core.specs.Seats.{stepped}
 use Rattle.site_core.specs.Choosing.{rows_at}
 use Rattle.site_core.specs.Cores.{with_rows, with_open}
 use Rattle.site_core.specs.declared.core_state.Core.{Core}
-use Rattle.site_core.proofs.Told.{appended}
+use Rattle.site_core.proofs.Told.{appended, behind}
 use Rattle.site_core.proofs.LocalCalls.{clear_write}
 use Rattle.site_core.proofs.LocalSteps.{write_told, each_tells, hand_opened, lead_on}
 use Rattle.site_core.proofs.Telling.{on_ok2}
 use Rattle.site_core.proofs.LocalRefusals.{keeps_put}
+use Rattle.site_core.proofs.AheadCores.{stepped_run}
+use Rattle.site_core.proofs.InOrder.{stepped_order}
+use Rattle.site_core.specs.Follows.{carried}
+use Rattle.site_core.proofs.Accounts.{well_then, refusal_told, carries_same}
 use Rattle.site_core.proofs.site.Site.write.Goals as goal
 
 pub end_of-end-requires : goal.end_of-end-requires
@@ -32,9 +36,9 @@ returns-in-Ok-clause-run g c = λ tells first follows.
     let here : slice_get c.extend.new.self.ranks rank ≡ Some n.seat = ap (λ (x : Core). slice_get x.ranks rank) c.extend.ensures.rest ∙ n.is in
     let number = c.number_of-file.ensures.number ∙ ap (λ (w : List ℕ). place_of (rows_at s.core rank) w) c.bytes.ensures.value in
     let e = event.Local rank (n.seat.number + 1) (step.Write c.args.word c.args.at c.args.content) reply.Done in
-    let more = appended after.history.events c.reserve.new.self.events s.history.events e e (c.in_ok-go_past-in-Ok.ensures.events n.seat here) c.reserve.ensures.events refl in
+    let more = appended after.history.events c.reserve.new.self.events s.history.events e e (c.go_past.ensures.events n.seat here) c.reserve.ensures.events refl in
     let opened = hand_opened s.core m (clear_write s.core rank c.args.word c.args.at c.args.content c.requires.clear).output c.in-Some.ensures.hand in
-    let core = c.in_ok-go_past-in-Ok.ensures.core n.seat here
+    let core = c.go_past.ensures.core n.seat here
     ∙ ap (λ (x : Core). let y : Core = record x { ranks = slice_set x.ranks rank (stepped n.seat) } in y) (c.in_ok-extend-in-Ok.ensures.ok m opened) in
     lead_on first (with_open s.core (with_rows m rank (extended (rows_of m.files rank) file c.end_of-end.result)) (slice_set s.core.ranks rank (stepped n.seat))) after.core s.programs after.programs (states_of state c.put_part.new.bay) (states_of state after.bay) after.history.events
     core c.go_past.ensures.fixed.programs (ap (states_of state) c.go_past.ensures.bay)
@@ -47,7 +51,7 @@ returns-in-Ok-clause-told g c =
     let n = c.requires.next in
     let here : slice_get c.extend.new.self.ranks c.args.rank ≡ Some n.seat = ap (λ (x : Core). slice_get x.ranks c.args.rank) c.extend.ensures.rest ∙ n.is in
     let e = event.Local c.args.rank (n.seat.number + 1) (step.Write c.args.word c.args.at c.args.content) reply.Done in
-    record { told = e ∷ []; few = omega arith; is = appended c.go_past.new.self.history.events c.reserve.new.self.events s.history.events e e (c.in_ok-go_past-in-Ok.ensures.events n.seat here) c.reserve.ensures.events refl; own = (refl, tt); caused = (tt, tt) }
+    record { told = e ∷ []; few = omega arith; is = appended c.go_past.new.self.history.events c.reserve.new.self.events s.history.events e e (c.go_past.ensures.events n.seat here) c.reserve.ensures.events refl; own = (refl, tt); caused = (tt, tt) }
 
 pub returns-clause-run : goal.returns-clause-run
 returns-clause-run g c = on_ok2 c.refuse_local.result (λ e k.
@@ -58,4 +62,31 @@ returns-clause-run g c = on_ok2 c.refuse_local.result (λ e k.
     keeps_put g.D.Device.state s c.refuse_local.new.self c.put_part.new.bay c.args.rank (step.Write c.args.word c.args.at c.args.content) c.in-Err.trouble x.0 n.seat c.refuse_local.ensures.bay x.1 n.is
     (appended c.refuse_local.new.self.history.events c.reserve.new.self.events s.history.events l l x.2 c.reserve.ensures.events refl) (k n.seat n.is) c.refuse_local.ensures.fixed.programs c.requires.stage n c.requires.clear refl
     c.number_of-file.result c.in-Some.spot ((clear_write s.core c.args.rank c.args.word c.args.at c.args.content c.requires.clear).output) c.in-Some.ensures c.number_of-file.ensures.within c.in-Err.ensures.refused)
+    c.refuse_local.ensures.events c.refuse_local.ensures.core
+
+pub returns-in-Ok-clause-lowers : goal.returns-in-Ok-clause-lowers
+returns-in-Ok-clause-lowers g c = stepped_run c.args.self.now c.go_past.new.self c.extend.new.self c.args.rank (step.Write c.args.word c.args.at c.args.content) c.requires.next c.requires.stage (ap (λ (x : Core). x.stage) c.extend.ensures.rest ∙ c.requires.stage) (ap (λ (x : Core). x.shape) c.extend.ensures.rest) (ap (λ (x : Core). x.ranks) c.extend.ensures.rest) c.go_past.ensures.fixed.programs c.go_past.ensures.core
+
+pub returns-clause-lowers : goal.returns-clause-lowers
+returns-clause-lowers g c = c.refuse_local.ensures.lowers c.requires.stage c.requires.next
+
+pub returns-in-Ok-clause-order : goal.returns-in-Ok-clause-order
+returns-in-Ok-clause-order g c = stepped_order c.args.self.now c.go_past.new.self c.extend.new.self c.args.rank (step.Write c.args.word c.args.at c.args.content) c.requires.next (ap (λ (x : Core). x.ranks) c.extend.ensures.rest) c.go_past.ensures.fixed.programs c.go_past.ensures.core
+
+pub returns-clause-order : goal.returns-clause-order
+returns-clause-order g c = c.refuse_local.ensures.order c.requires.next
+
+pub returns-in-Ok-clause-accounted : goal.returns-in-Ok-clause-accounted
+returns-in-Ok-clause-accounted g c =
+    let s = c.args.self.now in
+    let n = c.requires.next in
+    let here : slice_get c.extend.new.self.ranks c.args.rank ≡ Some n.seat = ap (λ (x : Core). slice_get x.ranks c.args.rank) c.extend.ensures.rest ∙ n.is in
+    well_then c.put_part.new.bay c.go_past.ensures.bay c.in-Ok.ensures.cause (carries_same s.core c.go_past.new.self.core (ap carried (c.go_past.ensures.core n.seat here) ∙ ap carried c.extend.ensures.rest))
+
+pub returns-clause-accounted : goal.returns-clause-accounted
+returns-clause-accounted g c = on_ok2 c.refuse_local.result (λ e k.
+    let s = c.args.self.now in
+    let n = c.requires.next in
+    let x = e n.seat n.is in
+    refusal_told g.D.Device.state s c.refuse_local.new.self c.put_part.new.bay c.refuse_local.ensures.bay (Unit {0}) c.in-Err.trouble x.0 c.args.rank (n.seat.number + 1) (step.Write c.args.word c.args.at c.args.content) x.1 c.in-Err.ensures.cause (behind _ x.2 c.reserve.ensures.events) (carries_same s.core c.refuse_local.new.self.core (ap carried (k n.seat n.is))))
     c.refuse_local.ensures.events c.refuse_local.ensures.core

@@ -1,4 +1,4 @@
-use Rattle.std.proofs.Common.{Some, List, ◌∙◌, ap, ◌≡◌, sym, subst}
+use Rattle.std.proofs.Common.{Some, List, ap, ◌≡◌, sym, subst}
 use Rattle.node_device.specs.Rack.{states_of}
 use Rattle.site_core.specs.Holds.{IsSaving, Leads}
 use Rattle.site_core.specs.declared.cache.Manifest.{Manifest}
@@ -15,6 +15,7 @@ use Rattle.site_core.proofs.Telling.{on_ok}
 use Rattle.site_core.proofs.LocalSteps.{lead_on}
 use Rattle.site_core.proofs.Refusals.{told_faults}
 use Rattle.site_core.proofs.Removing.{carried_write}
+use Rattle.site_core.proofs.AheadCores.{recorded_lower, record_over}
 use Rattle.site_core.proofs.site.Site.write_record.Goals as goal
 
 pub returns-in-Ok-clause-run : goal.returns-in-Ok-clause-run
@@ -40,9 +41,13 @@ returns-in-Err-clause-run g c = on_ok c.carry.result (λ x tells first f.
     let q = c.requires.saving first f in
     let one : m ≡ q.0 = opened_is first s.core s.programs old s.history.events work.Record c.args.node q.0 m q.1 c.in-Some-opened.is in
     let h = subst (λ (y : Manifest). IsSaving first s.core s.programs old s.history.events work.Record c.args.node y) (sym one) q.1 in
-    let same : x.0 ≡ m = opened_is first s.core s.programs old s.history.events work.Record c.args.node m x.0 h x.2 in
-    let opened : s.core.opened ≡ Some m = x.2 ∙ ap (λ (y : Manifest). Some y) same in
-    let l = carried_write first s.core s.programs old new s.history.events c.args.node m c.in-Some.place (sym c.in-Some.ensures.place) x.1 opened (told_faults c.in-Err.trouble x.1 x.3) h c.in-Err.ensures.refused in
+    let l = carried_write first s.core s.programs old new s.history.events c.args.node m c.in-Some.place (sym c.in-Some.ensures.place) x.0 c.in-Some-opened.is (told_faults c.in-Err.trouble x.0 x.1) h c.in-Err.ensures.refused in
     subst (λ (es : List Event). Leads first after.core after.programs (states_of state after.bay) es) (sym (ap (λ (t : Track). t.events) c.carry.ensures.history))
-    (lead_on first (dropping_core s.core m.desc.which (Some x.1)) after.core s.programs after.programs new (states_of state after.bay) s.history.events (x.4 ∙ ap (λ (y : Manifest). dropping_core s.core y.desc.which (Some x.1)) same) c.carry.ensures.fixed.programs (ap (states_of state) c.carry.ensures.bay) l))
+    (lead_on first (dropping_core s.core m.desc.which (Some x.0)) after.core s.programs after.programs new (states_of state after.bay) s.history.events x.2 c.carry.ensures.fixed.programs (ap (states_of state) c.carry.ensures.bay) l))
     c.carry.ensures.core
+
+pub returns-in-Ok-clause-lowers : goal.returns-in-Ok-clause-lowers
+returns-in-Ok-clause-lowers g c = recorded_lower c.args.self.now.core c.args.self.now.programs c.args.node c.in-Some-opened.m c.requires.stage c.in-Some-opened.is
+
+pub returns-in-Err-clause-lowers : goal.returns-in-Err-clause-lowers
+returns-in-Err-clause-lowers g c = c.carry.ensures.lowers (record_over c.args.self.now.core c.args.node c.in-Some-opened.m c.requires.stage c.in-Some-opened.is)

@@ -1,0 +1,21 @@
+-- The conditions on which jobs are to stop stay where the prefix's pair stays.
+use Rattle.std.proofs.Common.{◌≡◌, ◌≢◌, ℕ, List, Option, ap, ap₂, arith, codes}
+use Rattle.std.specs.Prelude.{get_or}
+use Rattle.node_device.specs.DeviceState.{DeviceState}
+use Rattle.gated_record.specs.Frames.{ChangesPair}
+use Rattle.gated_record.specs.Pair.{copy_name, pair_value, value_in, newer}
+use Rattle.halt_file.specs.Stores.{halt_in}
+use Rattle.site_core.specs.Stored.{Cells, cells_of, stored_halt}
+
+-- what the prefix reads as is the same
+pub halt_same : (old new : Cells) → new 32 ≡ old 32 → stored_halt new ≡ stored_halt old
+halt_same old new same = ap (λ (f : List ℕ → Option (List ℕ)). halt_in (pair_value (codes "halt") f)) same
+
+pub no_run_file : (i j : ℕ) → copy_name (codes "halt") i ≢ copy_name (codes "run") j
+no_run_file i j same = absurd (omega (arith, ap (λ (name : List ℕ). get_or name 0 0) same))
+
+-- a step of the run's number changes no file of theirs
+pub halt_apart : (states after : ℕ → DeviceState) → ChangesPair (codes "run") (states 32) (after 32) → stored_halt (cells_of after) ≡ stored_halt (cells_of states)
+halt_apart states after only = ap halt_in (ap₂ newer
+    (ap (value_in 0) (only.others (copy_name (codes "halt") 0) (no_run_file 0 0) (no_run_file 0 1)).now)
+    (ap (value_in 1) (only.others (copy_name (codes "halt") 1) (no_run_file 1 0) (no_run_file 1 1)).now))
