@@ -7,6 +7,7 @@ use Rattle.scr_base.specs.declared.actor.Actor.{Actor}
 use Rattle.scr_base.specs.declared.actor.Actor.TheVariants as actor
 use Rattle.scr_base.specs.declared.content.Step.{Step}
 use Rattle.site_core.specs.Follows.{IsActor}
+use Rattle.admin.specs.declared.command.Command.{Command}
 use Rattle.script_reader.specs.declared.script.Item.{Item}
 use Rattle.script_reader.specs.declared.script.Item.TheVariants.{Run, Lose, Scavenge, Admin}
 use Rattle.script_reader.specs.declared.script.RunItem.{RunItem}
@@ -15,7 +16,7 @@ use Rattle.script_reader.specs.Values.{Size, size_of, ranks_of}
 use Rattle.script_reader.specs.Grammar.{Job, job_of}
 use Rattle.scr_replay.specs.Items.{legal_item, legal_items}
 use Rattle.scr_replay.specs.Statuses.{IsBuilt}
-use Rattle.scr_replay.specs.Forms.{is_end, ends_by_itself, has_actor, has_turn, is_in_order, is_of_site, are_built_steps, is_built_run, is_built_item, is_single, first_steps, has_room, is_unflushed, is_built}
+use Rattle.scr_replay.specs.Forms.{is_end, ends_by_itself, has_actor, has_turn, is_in_order, is_of_site, are_built_steps, is_built_run, is_halt_command, is_built_item, is_single, first_steps, has_room, is_unflushed, is_built}
 
 pub both : (a b : Bool) → (a && b) ≡ true → (a ≡ true) × (b ≡ true)
 both true b h = (refl, h)
@@ -42,19 +43,20 @@ is_actor ranks n actor.Encoder h more = tt
 is_actor ranks n actor.Flusher h more = tt
 is_actor ranks n actor.Evictor h more = tt
 
--- the item is a run that is built
+-- the item is a run that is built, or a command on the conditions on which the job is to stop
 abbrev pub IsBuiltItem : Size → Item → Type 0
 IsBuiltItem site (Run run) = is_built_run site run ≡ true
+IsBuiltItem site (Admin command) = is_halt_command command ≡ true
 IsBuiltItem site _ = ⊥
 
 false_is_not : false ≡ true → ⊥
 false_is_not e = cc
 
-built_run : (site : Size) (x : Item) → is_built_item site x ≡ true → IsBuiltItem site x
-built_run site (Run run) h = h
-built_run site (Lose node) h = false_is_not h
-built_run site (Scavenge pick budget) h = false_is_not h
-built_run site (Admin command) h = false_is_not h
+built_part : (site : Size) (x : Item) → is_built_item site x ≡ true → IsBuiltItem site x
+built_part site (Run run) h = h
+built_part site (Lose node) h = false_is_not h
+built_part site (Scavenge pick budget) h = false_is_not h
+built_part site (Admin command) h = h
 
 -- its items are built
 pub items_built : (job : Job) → is_built job ≡ true → list_all (is_built_item job.site) job.items ≡ true
@@ -63,22 +65,26 @@ items_built job h =
     let items = (both (is_single job.scheme && list_all (is_built_item job.site) job.items) (has_room job.cache (first_steps job.items)) front).0 in
     (both (is_single job.scheme) (list_all (is_built_item job.site) job.items) items).1
 
--- an item of a script that is built is a run that is built
-pub built_item : (script : Script) (items : List Item) (i : ℕ) (x : Item) → items ≡ script.items → IsBuilt script → i < length items → x ≡ get_or items i x → IsBuiltItem (size_of script.shape) x
+-- an item of a script that is built is built
+pub built_item : (script : Script) (items : List Item) (i : ℕ) (x : Item) → items ≡ script.items → IsBuilt script → i < length items → x ≡ get_or items i x → is_built_item (size_of script.shape) x ≡ true
 built_item script items i x same built within read =
     let all = subst (λ (xs : List Item). list_all (is_built_item (size_of script.shape)) xs ≡ true) (sym same) (items_built (job_of script) built) in
-    built_run (size_of script.shape) x (ap (is_built_item (size_of script.shape)) read ∙ all_get (is_built_item (size_of script.shape)) items i x all within)
+    ap (is_built_item (size_of script.shape)) read ∙ all_get (is_built_item (size_of script.shape)) items i x all within
 
--- what is no run isn't built
-pub no_run : (site : Size) (x : Item) → ((run : RunItem) → x ≡ Run run → ⊥) → IsBuiltItem site x → ⊥
-no_run site (Run run) other built = other run refl
-no_run site (Lose node) other built = built
-no_run site (Scavenge pick budget) other built = built
-no_run site (Admin command) other built = built
+-- an item that is built so is a run, or a command
+pub built_as : (site : Size) (x y : Item) → x ≡ y → is_built_item site x ≡ true → IsBuiltItem site y
+built_as site x y same built = built_part site y (ap (is_built_item site) (sym same) ∙ built)
+
+-- what is neither a run nor a command isn't built
+pub no_item : (site : Size) (x : Item) → ((run : RunItem) → x ≡ Run run → ⊥) → ((command : Command) → x ≡ Admin command → ⊥) → is_built_item site x ≡ true → ⊥
+no_item site (Run run) other another built = other run refl
+no_item site (Lose node) other another built = false_is_not built
+no_item site (Scavenge pick budget) other another built = false_is_not built
+no_item site (Admin command) other another built = another command refl
 
 -- one item more
-pub more_items : (items all : List Item) (i : ℕ) (x y : Item) → items ≡ all → i < length items → x ≡ get_or items i x → x ≡ y → legal_items (take (i + 1) all) ≡ legal_items (take i all) ++ legal_item y ∷ []
-more_items items all i x y same within read is =
-    ap legal_items (subst (λ (xs : List Item). take (i + 1) xs ≡ take i xs ++ y ∷ []) same
-    (take_more items i x within ∙ ap (λ (z : Item). take i items ++ z ∷ []) (sym read ∙ is)))
-    ∙ map-append legal_item (take i all) (y ∷ [])
+pub more_items : (items all : List Item) (i : ℕ) (x : Item) → items ≡ all → i < length items → x ≡ get_or items i x → legal_items (take (i + 1) all) ≡ legal_items (take i all) ++ legal_item x ∷ []
+more_items items all i x same within read =
+    ap legal_items (subst (λ (xs : List Item). take (i + 1) xs ≡ take i xs ++ x ∷ []) same
+    (take_more items i x within ∙ ap (λ (z : Item). take i items ++ z ∷ []) (sym read)))
+    ∙ map-append legal_item (take i all) (x ∷ [])

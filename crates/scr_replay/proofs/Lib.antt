@@ -1,8 +1,11 @@
 mod Orders
 mod Fronts
 mod Same
+mod Steady
 mod Lengths
 mod Forms
 mod Rooms
 mod Replayed
+mod Commanded
 mod Cuts
+mod Goes

@@ -20,6 +20,7 @@ use Rattle.script_reader.specs.declared.script.RunItem.{RunItem}
 use Rattle.site_core.specs.Calls.{TellsAll}
 use Rattle.site_core.specs.Follows.{Stands, Ends, WasCut}
 use Rattle.site_core.specs.Holds.{HasRest, is_cut}
+use Rattle.site_core.proofs.Readings.{readings_then}
 use Rattle.site_core.specs.Waiting.{is_over}
 use Rattle.site_core.specs.declared.core_state.Stage.{Stage}
 use Rattle.site_core.specs.declared.core_state.Stage.TheVariants as stage
@@ -55,10 +56,10 @@ legal_then s (x ∷ xs) ys m mid new es fs one two =
     (one.0, one.1 ++ fs, one.2, ap (λ (events : List Event). events ++ fs) one.3 ∙ append_assoc one.0 one.1 fs, one.4, one.5, legal_then s xs ys one.2 mid new one.1 fs one.6 two)
 
 -- nothing was replayed yet
-pub none_replayed : {D : Type 0} (state : D → DeviceState) (s : Setup) (states : ℕ → DeviceState) (held : Option (List ℕ)) → IsReplayed state s [] states states held held
-none_replayed state s states None = record { events = []; played = λ tells first stands well. (first, (refl, refl), stands); printed = refl }
-none_replayed state s states (Some held) =
-    record { events = []; played = λ tells first stands well. (first, (refl, refl), stands); printed = ap (λ (h : List ℕ). Some h) (sym (append-nil held)) }
+pub none_replayed : {D : Type 0} (state : D → DeviceState) (s : Setup) (states : ℕ → DeviceState) (held : Option (List ℕ)) (clock : Option ℕ) → IsReplayed state s [] states states held held clock clock
+none_replayed state s states None clock = record { events = []; played = λ tells first stands well. (first, (refl, refl), stands); printed = refl; timed = record { readings = tt; next = refl } }
+none_replayed state s states (Some held) clock =
+    record { events = []; played = λ tells first stands well. (first, (refl, refl), stands); printed = ap (λ (h : List ℕ). Some h) (sym (append-nil held)); timed = record { readings = tt; next = refl } }
 
 -- what holds of all holds of both parts
 all_parts : (test : Event → Bool) (es fs : List Event) → list_all test (es ++ fs) ≡ true → (list_all test es ≡ true) × (list_all test fs ≡ true)
@@ -76,12 +77,13 @@ played_then state s xs ys a b c es fs one two =
     let y = two tells x.0 x.2 parts.1 in
     (y.0, legal_then s xs ys m x.0 y.0 es fs x.1 y.1, y.2)
 
-pub replayed_then : {D : Type 0} (state : D → DeviceState) (s : Setup) (xs ys : List Item) (a b c : ℕ → DeviceState) (first mid last : Option (List ℕ)) → IsReplayed state s xs a b first mid → IsReplayed state s ys b c mid last → IsReplayed state s (xs ++ ys) a c first last
-replayed_then state s xs ys a b c first mid last one two =
+pub replayed_then : {D : Type 0} (state : D → DeviceState) (s : Setup) (xs ys : List Item) (a b c : ℕ → DeviceState) (first mid last : Option (List ℕ)) (t u v : Option ℕ) → IsReplayed state s xs a b first mid t u → IsReplayed state s ys b c mid last u v → IsReplayed state s (xs ++ ys) a c first last t v
+replayed_then state s xs ys a b c first mid last t u v one two =
     record {
       events = one.events ++ two.events;
       played = played_then state s xs ys a b c one.events two.events one.played two.played;
       printed = text_joined first mid last one.events two.events one.printed two.printed;
+      timed = readings_then t u v one.events two.events one.timed two.timed;
     }
 
 front_joined : (first mid last : Option (List ℕ)) (a b : List Event) → Joins first mid (history_text a) → JoinsFront mid last (history_text b) → JoinsFront first last (history_text (a ++ b))
@@ -93,8 +95,8 @@ front_joined first mid last a b one two = (
 )
 
 -- what is told in part, behind what is told whole
-pub cut_then : {D : Type 0} (state : D → DeviceState) (s : Setup) (xs ys : List Item) (a b c : ℕ → DeviceState) (first mid last : Option (List ℕ)) → IsReplayed state s xs a b first mid → IsCutShort state s ys b c mid last → IsCutShort state s (xs ++ ys) a c first last
-cut_then state s xs ys a b c first mid last one two =
+pub cut_then : {D : Type 0} (state : D → DeviceState) (s : Setup) (xs ys : List Item) (a b c : ℕ → DeviceState) (first mid last : Option (List ℕ)) (t u : Option ℕ) → IsReplayed state s xs a b first mid t u → IsCutShort state s ys b c mid last → IsCutShort state s (xs ++ ys) a c first last
+cut_then state s xs ys a b c first mid last t u one two =
     record {
       events = one.events ++ two.events;
       played = played_then state s xs ys a b c one.events two.events one.played two.played;
@@ -102,8 +104,8 @@ cut_then state s xs ys a b c first mid last one two =
     }
 
 -- nothing more was told
-pub cut_there : {D : Type 0} (state : D → DeviceState) (s : Setup) (xs : List Item) (a b : ℕ → DeviceState) (first mid last : Option (List ℕ)) → IsReplayed state s xs a b first mid → last ≡ mid → IsCutShort state s xs a b first last
-cut_there state s xs a b first mid last one same =
+pub cut_there : {D : Type 0} (state : D → DeviceState) (s : Setup) (xs : List Item) (a b : ℕ → DeviceState) (first mid last : Option (List ℕ)) (t u : Option ℕ) → IsReplayed state s xs a b first mid t u → last ≡ mid → IsCutShort state s xs a b first last
+cut_there state s xs a b first mid last t u one same =
     record {
       events = one.events;
       played = one.played;

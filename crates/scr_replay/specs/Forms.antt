@@ -5,29 +5,24 @@ use Rattle.scr_base.specs.Sets.{numbers_below}
 use Rattle.scr_base.specs.declared.actor.Actor.{Actor}
 use Rattle.scr_base.specs.declared.actor.Actor.TheVariants.{Rank}
 use Rattle.scr_base.specs.declared.content.Step.{Step}
-use Rattle.scr_base.specs.declared.content.Step.TheVariants.{Need, Start, Complete, Restarted, Exit, Finalize}
+use Rattle.scr_base.specs.declared.content.Step.TheVariants.{Start, Complete, Restarted}
 use Rattle.scr_base.specs.declared.shape.Flags.{Flags}
 use Rattle.scr_base.specs.declared.shape.Flags.TheVariants.{Ckpt}
 use Rattle.scr_base.specs.declared.shape.Scheme.{Scheme}
 use Rattle.scr_base.specs.declared.shape.Scheme.TheVariants.{Single}
+use Rattle.admin.specs.declared.command.Command.{Command}
+use Rattle.admin.specs.declared.command.Command.TheVariants as command
 use Rattle.ckpt_model.specs.declared.stop_line.StopLine.{StopLine}
 use Rattle.ckpt_model.specs.declared.stop_line.StopPlace.{StopPlace}
 use Rattle.ckpt_model.specs.declared.stop_line.StopPlace.TheVariants as stop
 use Rattle.script_reader.specs.declared.script.Item.{Item}
-use Rattle.script_reader.specs.declared.script.Item.TheVariants.{Run}
+use Rattle.script_reader.specs.declared.script.Item.TheVariants.{Run, Admin}
 use Rattle.script_reader.specs.declared.script.RunItem.{RunItem}
 use Rattle.script_reader.specs.declared.script.TurnLine.{TurnLine}
 use Rattle.script_reader.specs.Values.{Size, ranks_of}
 use Rattle.script_reader.specs.Grammar.{Job}
 
 -- ## The steps
-
--- the step is a call that waits for the clock or for the job's end, which no site answers yet
-abbrev pub is_unanswered : Step → Bool
-is_unanswered Need = true
-is_unanswered Exit = true
-is_unanswered Finalize = true
-is_unanswered _ = false
 
 abbrev pub is_ckpt : Flags → Bool
 is_ckpt Ckpt = true
@@ -44,7 +39,7 @@ is_failed_restart (Restarted false) = true
 is_failed_restart _ = false
 
 abbrev pub is_built_step : Step → Bool
-is_built_step step = not (is_unanswered step) && not (is_for_prefix step) && not (is_failed_restart step)
+is_built_step step = not (is_for_prefix step) && not (is_failed_restart step)
 
 -- ## The runs
 
@@ -81,9 +76,16 @@ is_built_run site run =
 
 -- ## The items
 
--- the item is a run that is built
+-- the command is one on the conditions on which the job is to stop
+abbrev pub is_halt_command : Command → Bool
+is_halt_command (command.HaltSet word) = true
+is_halt_command command.HaltClear = true
+is_halt_command _ = false
+
+-- the item is a run that is built, or such a command
 abbrev pub is_built_item : Size → Item → Bool
 is_built_item site (Run run) = is_built_run site run
+is_built_item site (Admin command) = is_halt_command command
 is_built_item site _ = false
 
 abbrev pub first_program : List (List Step) → List Step
@@ -127,7 +129,7 @@ is_single Single = true
 is_single _ = false
 
 -- the script is built: its datasets are kept without copies, in cache and nowhere else, and there is room for them; its items are
--- runs that end by themselves
+-- runs that end by themselves, and commands on the conditions on which the job is to stop
 abbrev pub is_built : Job → Bool
 is_built job =
     is_single job.scheme && list_all (is_built_item job.site) job.items && has_room job.cache (first_steps job.items) && is_unflushed job.flush (first_steps job.items)

@@ -5,4 +5,6 @@ pub mod Forms
 pub mod Refusals
 pub mod Runs
 pub mod Items
+pub mod Commands
 pub mod Statuses
+pub mod Goes

@@ -12,6 +12,7 @@ use Rattle.ckpt_model.specs.declared.event.Event.TheVariants as event
 use Rattle.site_core.specs.Calls.{TellsAll}
 use Rattle.site_core.specs.Follows.{Stands}
 use Rattle.site_core.specs.Holds.{is_cut}
+use Rattle.site_core.specs.Readings.{TellsReadings}
 use Rattle.scr_replay.specs.Outputs.{JoinsFront}
 
 -- the event doesn't end a run for a device's sake, or from outside
@@ -25,11 +26,12 @@ abbrev pub IsPlayed : {D : Type 0} → (D → DeviceState) → Setup → List It
 IsPlayed state s items old new events =
     TellsAll state → (first : Machine) → Stands s old first → list_all goes_well events ≡ true → (last : Machine) × IsLegal s items first events last × Stands s new last
 
--- the items were played, and the text of their history went out
-pub record IsReplayed {D : Type 0} (state : D → DeviceState) (s : Setup) (items : List Item) (old new : ℕ → DeviceState) (held held' : Option (List ℕ)) : Type 0 where
+-- the items were played, the text of their history went out, and the times in it are the clock's readings
+pub record IsReplayed {D : Type 0} (state : D → DeviceState) (s : Setup) (items : List Item) (old new : ℕ → DeviceState) (held held' : Option (List ℕ)) (clock clock' : Option ℕ) : Type 0 where
   pub events : List Event
   pub played : IsPlayed state s items old new events
   pub printed : Joins held held' (history_text events)
+  pub timed : TellsReadings clock clock' events
 
 -- the items were played, and a front of the text of their history went out
 pub record IsCutShort {D : Type 0} (state : D → DeviceState) (s : Setup) (items : List Item) (old new : ℕ → DeviceState) (held held' : Option (List ℕ)) : Type 0 where

@@ -4,9 +4,10 @@ ghost use Rattle.std.specs.List.{list_all};
 ghost use Rattle.scr_base.specs.Sets.{numbers_below};
 ghost use Rattle.script_reader.specs.Values.{size_of};
 ghost use Rattle.script_reader.specs.Grammar.{job_of};
-ghost use Rattle.scr_replay.specs.Forms.{is_single, ends_by_itself, has_actor, has_turn, is_of_site, are_built_steps, is_built_run, is_built_item, first_program, first_steps_of, first_steps, has_room, is_unflushed, is_built};
+ghost use Rattle.scr_replay.specs.Forms.{is_single, ends_by_itself, has_actor, has_turn, is_of_site, are_built_steps, is_built_run, is_halt_command, is_built_item, first_program, first_steps_of, first_steps, has_room, is_unflushed, is_built};
 
 use crate::steps::{are_built_steps, count_starts, has_room, room_behind};
+use admin::Command;
 use ckpt_model::{StopLine, StopPlace};
 use scr_base::{Actor, Items, Scheme, Shape, Step};
 use script_reader::{Item, RunItem, Script, TurnLine};
@@ -83,12 +84,20 @@ fn is_built_run(shape: Shape, run: &RunItem) -> bool
         && are_built_programs(run.programs.list())
 }
 
-/// Whether the item is a run that is built.
+/// Whether the command is one on the conditions on which the job is to stop.
+fn is_halt_command(command: &Command) -> bool
+    ensures { result ≡ is_halt_command command.now }
+{
+    matches!(command, Command::HaltSet { .. } | Command::HaltClear)
+}
+
+/// Whether the item is a run that is built, or such a command.
 fn is_built_item(shape: Shape, item: &Item) -> bool
     ensures { result ≡ is_built_item (size_of shape) item.now }
 {
     match item {
         Item::Run { run } => is_built_run(shape, run),
+        Item::Admin { command } => is_halt_command(command),
         _ => false,
     }
 }
@@ -148,7 +157,8 @@ fn are_unflushed(flush: usize, items: &[Item]) -> bool
 }
 
 /// Whether the script is of the form that is built (`docs/SCRIPT.md`): its datasets are kept without copies, in cache and
-/// nowhere else, and there is room for them; its items are runs that end by themselves.
+/// nowhere else, and there is room for them; its items are runs that end by themselves, and commands on the conditions on which
+/// the job is to stop.
 pub fn is_built(script: &Script) -> bool
     ensures { result ≡ is_built (job_of script.now) }
 {

@@ -2,6 +2,7 @@
 #![tactic(auto)]
 
 mod built;
+mod commanding;
 mod devices;
 mod input;
 mod output;

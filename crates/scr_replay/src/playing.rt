@@ -1,5 +1,5 @@
 // The runs of a script.
-ghost use Rattle.std.specs.Prelude.{◌≡◌, ◌*◌, ◌<◌, ◌≤◌, ◌⊎◌, ◌∷◌, [], true, length, map, IfOk, IfErr, OnOk};
+ghost use Rattle.std.specs.Prelude.{◌≡◌, ◌*◌, ◌<◌, ◌≤◌, ◌⊎◌, ◌∷◌, [], true, length, map, IfOk, IfErr, OnOk, ℕ, Option};
 ghost use Rattle.scr_base.specs.Causes.{Rose};
 ghost use Rattle.node_device.specs.Rack.{states_of};
 ghost use Rattle.ckpt_model.specs.Machine.{Machine};
@@ -7,28 +7,32 @@ ghost use Rattle.script_reader.specs.Values.{size_of};
 ghost use Rattle.script_reader.specs.declared.script.Item.TheVariants as item;
 ghost use Rattle.site_core.specs.Follows.{Keeps, HasStopped, IsActor, IsSameRun, Stands, Follows};
 ghost use Rattle.site_core.specs.Shown.{setup_of as setup_of_core};
+ghost use Rattle.site_core.specs.Readings.{TellsReadings, TellsTimes};
 ghost use Rattle.std.specs.List.{list_all};
-ghost use Rattle.scr_replay.specs.Forms.{has_turn, is_built_run};
+ghost use Rattle.scr_replay.specs.Forms.{has_turn, is_built_run, is_built_item};
+ghost use Rattle.scr_replay.specs.Goes.{GoesDown};
 ghost use Rattle.scr_replay.specs.Items.{setup_of, legal_item, legal_items, CutsShort};
 ghost use Rattle.scr_replay.specs.Runs.{RunEnds, IsReplayed, IsPlayed};
 ghost use Rattle.scr_replay.specs.Statuses.{IsBuilt};
 
+use crate::commanding::play_command;
 use crate::telling::{Untold, tell};
 use node_device::{Bay, Device, Ran};
-use scr_base::{Actor, Config, Copies, Items, Memory, Shape, Sink, Step};
+use scr_base::{Actor, Clock, Config, Copies, Items, Memory, Shape, Sink, Step};
 use script_reader::{Item, RunItem, Script, TurnLine};
 use site_core::{Closed, Site, SiteError, Unbegun, stop_devices};
 use std::alloc::Global;
 
 /// Runs the runs of a script over a bay, one after the other, and prints their histories.
-pub fn play_all<D: Device, K: Sink>(
+pub fn play_all<D: Device, K: Sink, C: Clock>(
     alloc: Global,
     bay: Bay<D>,
     script: &Script,
     sink: &mut K,
+    clock: &mut C,
 ) -> Ran<D>
     requires { IsBuilt script.now }
-    ensures done { result.status ≡ 0 → IsReplayed D.state (setup_of script.now) (legal_items script.now.items) (states_of D.state bay) (states_of D.state result.bay) (K.held sink.old) (K.held sink.new) }
+    ensures done { result.status ≡ 0 → IsReplayed D.state (setup_of script.now) (legal_items script.now.items) (states_of D.state bay) (states_of D.state result.bay) (K.held sink.old) (K.held sink.new) (C.reading clock.old) (C.reading clock.new) }
     ensures cut { 3 < result.status → CutsShort D.state (setup_of script.now) script.now.items (states_of D.state bay) (K.held sink.old) (K.held sink.new) }
     ensures quiet { result.status ≡ 0 → K.fault_count sink.new ≡ K.fault_count sink.old }
     ensures known { (result.status ≡ 0) ⊎ ((3 < result.status) × (result.status ≤ 5)) }
@@ -36,10 +40,7 @@ pub fn play_all<D: Device, K: Sink>(
 {
     let mut bay = bay;
     for item in script.items.list() {
-        let Item::Run { run } = item else {
-            unreachable!()
-        };
-        match play(alloc, bay, script.shape, script.config, run, sink) {
+        match play_item(alloc, bay, script.shape, script.config, item, sink, clock) {
             Ok(after) => bay = after,
             Err(ran) => return ran,
         }
@@ -47,21 +48,44 @@ pub fn play_all<D: Device, K: Sink>(
     Ran { status: 0, bay }
 }
 
+/// Runs a run over a bay, or carries a command out, and prints what comes of it: the bay for what follows, or how the call ends.
+fn play_item<D: Device, K: Sink, C: Clock>(
+    alloc: Global,
+    bay: Bay<D>,
+    shape: Shape,
+    config: Config,
+    item: &Item,
+    sink: &mut K,
+    clock: &mut C,
+) -> Result<Bay<D>, Ran<D>>
+    requires { is_built_item (size_of shape) item.now ≡ true }
+    ensures replayed { IfOk result (λ after. IsReplayed D.state (record { shape = shape; config = config }) (legal_item item.now ∷ []) (states_of D.state bay) (states_of D.state after) (K.held sink.old) (K.held sink.new) (C.reading clock.old) (C.reading clock.new)) }
+    ensures quiet { OnOk result (K.fault_count sink.new ≡ K.fault_count sink.old) }
+    ensures ends { IfErr result (λ ran. RunEnds D.state (record { shape = shape; config = config }) (legal_item item.now) (states_of D.state bay) (states_of D.state ran.bay) (K.held sink.old) (K.held sink.new) (K.fault_count sink.old) (K.fault_count sink.new) ran.status) }
+{
+    match item {
+        Item::Run { run } => play(alloc, bay, shape, config, run, sink, clock),
+        Item::Admin { command } => play_command(alloc, bay, command, sink),
+        _ => unreachable!(),
+    }
+}
+
 /// Runs a run over a bay and prints its history: the bay for what follows, or how the call ends.
-fn play<D: Device, K: Sink>(
+fn play<D: Device, K: Sink, C: Clock>(
     alloc: Global,
     bay: Bay<D>,
     shape: Shape,
     config: Config,
     run: &RunItem,
     sink: &mut K,
+    clock: &mut C,
 ) -> Result<Bay<D>, Ran<D>>
     requires { is_built_run (size_of shape) run.now ≡ true }
-    ensures replayed { IfOk result (λ after. IsReplayed D.state (record { shape = shape; config = config }) (legal_item (item.Run run.now) ∷ []) (states_of D.state bay) (states_of D.state after) (K.held sink.old) (K.held sink.new)) }
+    ensures replayed { IfOk result (λ after. IsReplayed D.state (record { shape = shape; config = config }) (legal_item (item.Run run.now) ∷ []) (states_of D.state bay) (states_of D.state after) (K.held sink.old) (K.held sink.new) (C.reading clock.old) (C.reading clock.new)) }
     ensures quiet { OnOk result (K.fault_count sink.new ≡ K.fault_count sink.old) }
     ensures ends { IfErr result (λ ran. RunEnds D.state (record { shape = shape; config = config }) (legal_item (item.Run run.now)) (states_of D.state bay) (states_of D.state ran.bay) (K.held sink.old) (K.held sink.new) (K.fault_count sink.old) (K.fault_count sink.new) ran.status) }
 {
-    let Closed { history, bay } = match run_through(alloc, bay, shape, config, run) {
+    let Closed { history, bay } = match run_through(alloc, bay, shape, config, run, clock) {
         Ok(closed) => closed,
         Err(ran) => return Err(ran),
     };
@@ -73,22 +97,29 @@ fn play<D: Device, K: Sink>(
 }
 
 /// Runs a run over a bay to its end, and stops the devices: the history and the bay, or how the call ends.
-fn run_through<D: Device>(
+fn run_through<D: Device, C: Clock>(
     alloc: Global,
     bay: Bay<D>,
     shape: Shape,
     config: Config,
     run: &RunItem,
+    clock: &mut C,
 ) -> Result<Closed<D>, Ran<D>>
     requires { is_built_run (size_of shape) run.now ≡ true }
     ensures played { IfOk result (λ closed. IsPlayed D.state (record { shape = shape; config = config }) (legal_item (item.Run run.now) ∷ []) (states_of D.state bay) (states_of D.state closed.bay) closed.history.events) }
+    ensures timed { IfOk result (λ closed. TellsReadings (C.reading clock.old) (C.reading clock.new) closed.history.events) }
     ensures ends { IfErr result (λ ran. ran.status ≡ 5) }
 {
     let mut site = match begin_run(alloc, bay, shape, config, run) {
         Ok(site) => site,
         Err(Unbegun { bay }) => return Err(Ran { status: 5, bay }),
     };
-    let over = run_out(&mut site, shape.nodes * shape.ranks, run.turns.list());
+    let over = run_out(
+        &mut site,
+        clock,
+        shape.nodes * shape.ranks,
+        run.turns.list(),
+    );
     let Closed { history, mut bay } = site.close();
     if let Err(SiteError::Memory) = over {
         return Err(Ran { status: 5, bay });
@@ -134,6 +165,7 @@ fn begin_run<D: Device>(
     ensures places { IfOk result (λ site. site.core.places ≡ run.now.places) }
     ensures programs { IfOk result (λ site. site.programs ≡ run.now.programs) }
     ensures ranks { IfOk result (λ site. length site.core.ranks ≡ shape.nodes * shape.ranks) }
+    ensures empty { IfOk result (λ site. site.history.events ≡ []) }
     ensures follows { IfOk result (λ site. (first : Machine) → Stands (record { shape = shape; config = config }) (states_of D.state bay) first → Follows D.state first site) }
 {
     let Ok(places) = Vec::from_slice(alloc, run.places.list()) else {
@@ -146,89 +178,172 @@ fn begin_run<D: Device>(
 }
 
 /// Runs a site until its run has stopped: first the actors of the turn lines take their turns, and then all go round.
-fn run_out<D: Device>(site: &mut Site<D>, ranks: u8, turns: &[TurnLine]) -> Result<(), SiteError>
+fn run_out<D: Device, C: Clock>(
+    site: &mut Site<D>,
+    clock: &mut C,
+    ranks: u8,
+    turns: &[TurnLine],
+) -> Result<(), SiteError>
     requires ranks { ranks ≤ length site.old.core.ranks }
     requires actors { list_all (has_turn ranks) turns.now ≡ true }
     ensures kept { OnOk result (Keeps D.state site.old site.new) }
     ensures same { IsSameRun site.old site.new }
+    ensures timed { OnOk result (TellsTimes (C.reading clock.old) (C.reading clock.new) site.old.history.events site.new.history.events) }
     ensures stopped { OnOk result (HasStopped site.new) }
 {
-    take_lines(site, ranks, turns)?;
-    go_on(site, ranks)
+    take_lines(site, clock, ranks, turns)?;
+    go_on(site, clock, ranks)
 }
 
 /// Lets the actors of the turn lines take their turns, line after line.
-fn take_lines<D: Device>(site: &mut Site<D>, ranks: u8, turns: &[TurnLine]) -> Result<(), SiteError>
+fn take_lines<D: Device, C: Clock>(
+    site: &mut Site<D>,
+    clock: &mut C,
+    ranks: u8,
+    turns: &[TurnLine],
+) -> Result<(), SiteError>
     requires ranks { ranks ≤ length site.old.core.ranks }
     requires actors { list_all (has_turn ranks) turns.now ≡ true }
     ensures kept { OnOk result (Keeps D.state site.old site.new) }
     ensures same { IsSameRun site.old site.new }
+    ensures timed { OnOk result (TellsTimes (C.reading clock.old) (C.reading clock.new) site.old.history.events site.new.history.events) }
 {
     for turn in turns {
-        take_turns(site, ranks, *turn)?;
+        take_turns(site, clock, ranks, *turn)?;
     }
     Ok(())
 }
 
 /// Lets an actor take the turns of a turn line, moved or not.
-fn take_turns<D: Device>(site: &mut Site<D>, ranks: u8, turn: TurnLine) -> Result<(), SiteError>
+fn take_turns<D: Device, C: Clock>(
+    site: &mut Site<D>,
+    clock: &mut C,
+    ranks: u8,
+    turn: TurnLine,
+) -> Result<(), SiteError>
     requires ranks { ranks ≤ length site.old.core.ranks }
     requires actor { has_turn ranks turn ≡ true }
     ensures kept { OnOk result (Keeps D.state site.old site.new) }
     ensures same { IsSameRun site.old site.new }
+    ensures timed { OnOk result (TellsTimes (C.reading clock.old) (C.reading clock.new) site.old.history.events site.new.history.events) }
 {
     for _turn in 0..turn.times {
-        take_turn(site, turn.actor)?;
+        take_turn(site, clock, turn.actor)?;
     }
     Ok(())
 }
 
-/// Lets the actors go round until the run has stopped. No run takes so many rounds.
-fn go_on<D: Device>(site: &mut Site<D>, ranks: u8) -> Result<(), SiteError>
+/// Lets the actors go round until the run has stopped, or nobody moves in a round.
+fn go_on<D: Device, C: Clock>(site: &mut Site<D>, clock: &mut C, ranks: u8) -> Result<(), SiteError>
     requires { ranks ≤ length site.old.core.ranks }
     ensures kept { OnOk result (Keeps D.state site.old site.new) }
     ensures same { IsSameRun site.old site.new }
+    ensures timed { OnOk result (TellsTimes (C.reading clock.old) (C.reading clock.new) site.old.history.events site.new.history.events) }
     ensures stopped { OnOk result (HasStopped site.new) }
 {
-    for _round in 0..u64::MAX {
-        go_round(site, ranks)?;
+    let mut goes = true;
+    while goes {
+        let moves = site.moves();
+        go_round(site, clock, ranks)?;
         if site.stopped() {
             return Ok(());
         }
+        goes = site.moves() != moves;
     }
     Err(SiteError::Memory)
 }
 
 /// Lets each actor take a turn.
-fn go_round<D: Device>(site: &mut Site<D>, ranks: u8) -> Result<(), SiteError>
+fn go_round<D: Device, C: Clock>(
+    site: &mut Site<D>,
+    clock: &mut C,
+    ranks: u8,
+) -> Result<(), SiteError>
     requires { ranks ≤ length site.old.core.ranks }
     ensures kept { OnOk result (Keeps D.state site.old site.new) }
     ensures same { IsSameRun site.old site.new }
+    ensures goes { OnOk result (GoesDown site.old site.new) }
+    ensures timed { OnOk result (TellsTimes (C.reading clock.old) (C.reading clock.new) site.old.history.events site.new.history.events) }
 {
-    take_turn(site, Actor::Recoverer)?;
-    take_rank_turns(site, ranks)?;
-    take_turn(site, Actor::Encoder)?;
-    take_turn(site, Actor::Flusher)?;
-    take_turn(site, Actor::Evictor)
+    take_plain_turn(site, Actor::Recoverer)?;
+    take_rank_turns(site, clock, ranks)?;
+    take_plain_turn(site, Actor::Encoder)?;
+    take_plain_turn(site, Actor::Flusher)?;
+    take_plain_turn(site, Actor::Evictor)
 }
 
 /// Lets each rank take a turn.
-fn take_rank_turns<D: Device>(site: &mut Site<D>, ranks: u8) -> Result<(), SiteError>
+fn take_rank_turns<D: Device, C: Clock>(
+    site: &mut Site<D>,
+    clock: &mut C,
+    ranks: u8,
+) -> Result<(), SiteError>
     requires { ranks ≤ length site.old.core.ranks }
     ensures kept { OnOk result (Keeps D.state site.old site.new) }
     ensures same { IsSameRun site.old site.new }
+    ensures goes { OnOk result (GoesDown site.old site.new) }
+    ensures timed { OnOk result (TellsTimes (C.reading clock.old) (C.reading clock.new) site.old.history.events site.new.history.events) }
 {
     for rank in 0..ranks {
-        take_turn(site, Actor::Rank { rank })?;
+        take_rank_turn(site, clock, rank)?;
     }
     Ok(())
 }
 
-/// Lets an actor take a turn.
-fn take_turn<D: Device>(site: &mut Site<D>, actor: Actor) -> Result<(), SiteError>
+/// Lets an actor take a turn, a rank with a look at the clock.
+fn take_turn<D: Device, C: Clock>(
+    site: &mut Site<D>,
+    clock: &mut C,
+    actor: Actor,
+) -> Result<(), SiteError>
     requires { IsActor (length site.old.core.ranks) actor }
     ensures kept { OnOk result (Keeps D.state site.old site.new) }
     ensures same { IsSameRun site.old site.new }
+    ensures timed { OnOk result (TellsTimes (C.reading clock.old) (C.reading clock.new) site.old.history.events site.new.history.events) }
+{
+    match actor {
+        Actor::Rank { rank } => take_rank_turn(site, clock, rank),
+        _ => take_plain_turn(site, actor),
+    }
+}
+
+/// Lets a rank take a turn; the clock is read before, where the round needs the time.
+fn take_rank_turn<D: Device, C: Clock>(
+    site: &mut Site<D>,
+    clock: &mut C,
+    rank: u8,
+) -> Result<(), SiteError>
+    requires { rank < length site.old.core.ranks }
+    ensures kept { OnOk result (Keeps D.state site.old site.new) }
+    ensures same { IsSameRun site.old site.new }
+    ensures goes { OnOk result (GoesDown site.old site.new) }
+    ensures timed { OnOk result (TellsTimes (C.reading clock.old) (C.reading clock.new) site.old.history.events site.new.history.events) }
+{
+    tell_time(site, clock)?;
+    take_plain_turn(site, Actor::Rank { rank })
+}
+
+/// Reads the clock, where the round needs the time, and tells it.
+fn tell_time<D: Device, C: Clock>(site: &mut Site<D>, clock: &mut C) -> Result<(), SiteError>
+    ensures kept { OnOk result (Keeps D.state site.old site.new) }
+    ensures same { IsSameRun site.old site.new }
+    ensures goes { OnOk result (GoesDown site.old site.new) }
+    ensures timed { OnOk result (TellsTimes (C.reading clock.old) (C.reading clock.new) site.old.history.events site.new.history.events) }
+{
+    if !site.wants_time() {
+        return Ok(());
+    }
+    let now = clock.now();
+    site.tell_time(now)
+}
+
+/// Lets an actor take a turn without a look at the clock.
+fn take_plain_turn<D: Device>(site: &mut Site<D>, actor: Actor) -> Result<(), SiteError>
+    requires { IsActor (length site.old.core.ranks) actor }
+    ensures kept { OnOk result (Keeps D.state site.old site.new) }
+    ensures same { IsSameRun site.old site.new }
+    ensures goes { OnOk result (GoesDown site.old site.new) }
+    ensures timed { OnOk result ((next : Option ℕ) → TellsTimes next next site.old.history.events site.new.history.events) }
 {
     match site.turn(actor) {
         Ok(_) => Ok(()),

@@ -28,13 +28,12 @@ pub fn replay<S: Source, K: Sink, D: Device, C: Clock>(
     ensures refusal { EndsByRefusal (map (λ word. string_bytes word) words.now.items) (seen (S.left source.old) (S.fault_count source.old) (K.held sink.old) (K.fault_count sink.old)) (seen (S.left source.new) (S.fault_count source.new) (K.held sink.new) (K.fault_count sink.new)) result.status }
     ensures source_fault { EndsBySourceFault (map (λ word. string_bytes word) words.now.items) (seen (S.left source.old) (S.fault_count source.old) (K.held sink.old) (K.fault_count sink.old)) (seen (S.left source.new) (S.fault_count source.new) (K.held sink.new) (K.fault_count sink.new)) result.status }
     ensures sink_fault { EndsBySinkFault (seen (S.left source.old) (S.fault_count source.old) (K.held sink.old) (K.fault_count sink.old)) (seen (S.left source.new) (S.fault_count source.new) (K.held sink.new) (K.fault_count sink.new)) result.status }
-    ensures done { result.status ≡ 0 → IsDone D.state (seen (S.left source.old) (S.fault_count source.old) (K.held sink.old) (K.fault_count sink.old)) (seen (S.left source.new) (S.fault_count source.new) (K.held sink.new) (K.fault_count sink.new)) (states_of D.state bay) (states_of D.state result.bay) }
+    ensures done { result.status ≡ 0 → IsDone D.state (seen (S.left source.old) (S.fault_count source.old) (K.held sink.old) (K.fault_count sink.old)) (seen (S.left source.new) (S.fault_count source.new) (K.held sink.new) (K.fault_count sink.new)) (states_of D.state bay) (states_of D.state result.bay) (C.reading clock.old) (C.reading clock.new) }
     ensures front { 3 < result.status → IsEarlyFront (map (λ word. string_bytes word) words.now.items) (seen (S.left source.old) (S.fault_count source.old) (K.held sink.old) (K.fault_count sink.old)) (seen (S.left source.new) (S.fault_count source.new) (K.held sink.new) (K.fault_count sink.new)) ⊎ IsCut D.state (seen (S.left source.old) (S.fault_count source.old) (K.held sink.old) (K.fault_count sink.old)) (seen (S.left source.new) (S.fault_count source.new) (K.held sink.new) (K.fault_count sink.new)) (states_of D.state bay) }
     ensures known { result.status ≤ 5 }
 {
-    let _ = clock;
     match script_or_status(alloc, words, source, sink) {
-        Ok(script) => play_all(alloc, bay, &script, sink),
+        Ok(script) => play_all(alloc, bay, &script, sink, clock),
         Err(status) => Ran { status, bay },
     }
 }

@@ -1,15 +1,8 @@
 // The steps of a rank in a script that is built.
 ghost use Rattle.std.specs.Prelude.{◌≡◌, ◌-◌, count_by};
-ghost use Rattle.scr_replay.specs.Forms.{is_unanswered, is_for_prefix, is_failed_restart, is_built_step, are_built_steps, is_start, is_kept, has_room};
+ghost use Rattle.scr_replay.specs.Forms.{is_for_prefix, is_failed_restart, is_built_step, are_built_steps, is_start, is_kept, has_room};
 
 use scr_base::{Flags, Step};
-
-/// Whether the step is a call that waits for the clock or for the job's end, which no site answers yet.
-fn is_unanswered(step: &Step) -> bool
-    ensures { result ≡ is_unanswered step.now }
-{
-    matches!(step, Step::Need | Step::Exit | Step::Finalize)
-}
 
 /// Whether the step starts a dataset that goes to the prefix.
 fn is_for_prefix(step: &Step) -> bool
@@ -31,7 +24,7 @@ fn is_failed_restart(step: &Step) -> bool
 fn is_built_step(step: &Step) -> bool
     ensures { result ≡ is_built_step step.now }
 {
-    !is_unanswered(step) && !is_for_prefix(step) && !is_failed_restart(step)
+    !is_for_prefix(step) && !is_failed_restart(step)
 }
 
 /// Whether each of the steps is built.

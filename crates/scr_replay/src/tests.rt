@@ -61,6 +61,33 @@ const NOT_KEPT_TOLD: &str =
 const FULL_TOLD: &str =
     "run 1 at 0\nfound |\ncall 0 1 start a ckpt\ndecided start ok 1.1\nreply 0 1 ok 1.1\nlocal 0 2 route f = ok d.1.1.0.f.0.0\nlocal 0 3 write f 0 text abc = full 0 0 2\ncall 0 4 complete valid\ndecided complete full 0 0 2\nreply 0 4 full 0 0 2\ncall 0 5 end\nstop ended\nrun 2 at 0\nfound |\ncall 0 1 have\ndecided have none\nreply 0 1 none\ncall 0 2 restart\ndecided restart phase idle\nreply 0 2 phase idle\nlocal 0 3 read f 0 3 = phase idle\ncall 0 4 restarted valid\ndecided restarted phase idle\nreply 0 4 phase idle\ncall 0 5 end\nstop ended\n";
 
+// Three questions for a checkpoint, which is wanted at each second one.
+const QUESTIONS: &str =
+    "site 1 1 0\nset scheme single\nset interval 2\nrun 0\nrank 0 need\nrank 0 need\nrank 0 need\nstop 0 end\n";
+
+const QUESTIONS_TOLD: &str =
+    "run 1 at 0\nfound |\ncall 0 1 need\ntime 0\ndecided need no\nreply 0 1 no\ncall 0 2 need\ntime 1\ndecided need yes\nreply 0 2 yes\ncall 0 3 need\ntime 2\ndecided need no\nreply 0 3 no\ncall 0 4 end\nstop ended\n";
+
+// A question that one of three ranks doesn't ask: the clock isn't read.
+const UNASKED: &str = "site 3 1 0\nset scheme single\nrun 0,1,2\nrank 0-1 need\nstop 0 end\n";
+
+const UNASKED_TOLD: &str =
+    "run 1 at 0,1,2\nfound |\ncall 0 1 need\ncall 1 1 need\ncall 2 1 end\ndecided need mismatch 2\nreply 1 1 mismatch 2\nreply 2 1 mismatch 2\nreply 0 1 mismatch 2\ncall 1 2 end\ncall 2 1 end\ncall 0 2 end\nstop ended\n";
+
+// Conditions on which the job is to stop: set before a run, beside them another one, and all of them cleared.
+const HALTS: &str =
+    "site 1 1 0\nset scheme single\nhalt before 100\nhalt seconds 99\nrun 0\nrank 0 exit\nrank 0 exit\nstop 0 end\nhalt reason done\nrun 0\nrank 0 exit\nstop 0 end\nhalt clear\nrun 0\nrank 0 exit\nstop 0 end\n";
+
+const HALTS_TOLD: &str =
+    "halt before 100 = ok\nhalt seconds 99 = ok\nrun 1 at 0\nfound |\ncall 0 1 exit\ntime 0\ndecided exit no\nreply 0 1 no\ncall 0 2 exit\ntime 1\ndecided exit yes before\nreply 0 2 yes before\ncall 0 3 end\nstop ended\nhalt reason done = ok\nrun 2 at 0\nfound |\ncall 0 1 exit\ntime 2\ndecided exit yes reason\nreply 0 1 yes reason\ncall 0 2 end\nstop ended\nhalt clear = ok\nrun 3 at 0\nfound |\ncall 0 1 exit\ntime 3\ndecided exit no\nreply 0 1 no\ncall 0 2 end\nstop ended\n";
+
+// Two checkpoints, of which the job is to make no more.
+const CHECKPOINTS: &str =
+    "site 1 1 0\nset scheme single\nset cache 2\nhalt checkpoints 2\nrun 0\nrank 0 start a ckpt\nrank 0 complete valid\nrank 0 exit\nrank 0 start b ckpt\nrank 0 complete valid\nrank 0 exit\nstop 0 end\n";
+
+const FINALIZED: &str =
+    "site 1 1 0\nset scheme single\nrun 0\nrank 0 finalize\nrank 0 have\nstop 0 end\n";
+
 // A run that stops within its turn lines, and another one.
 const ENDED_BY_TURNS: &str =
     "site 1 1 0\nset scheme single\nrun 0\nturn recoverer 100\nturn rank 0 100\nturn flusher 100\nstop 0 end\nrun 0\nstop 0 end\n";
@@ -227,7 +254,12 @@ fn refuses_what_is_not_built(rt: HostRuntime) -> Result<(), Fail> {
         (SCRIPT, "stop 0 end\n", "stop 0 end\nlose 0\n", UNBUILT),
         (SCRIPT, "stop 0 end\n", "stop 0 end\nscavenge\n", UNBUILT),
         (SCRIPT, "stop 0 end\n", "stop 0 end\nindex list\n", UNBUILT),
-        (SCRIPT, "stop 0 end\n", "stop 0 end\nhalt clear\n", UNBUILT),
+        (
+            SCRIPT,
+            "stop 0 end\n",
+            "stop 0 end\nindex current 1\n",
+            UNBUILT,
+        ),
         (SCRIPT, "restarted valid", "restarted invalid", UNBUILT),
         (
             NODES,
@@ -258,14 +290,6 @@ fn refuses_what_is_not_built(rt: HostRuntime) -> Result<(), Fail> {
         (SCRIPT, "stop 0 end", "stop 1 end", UNBUILT),
         (SCRIPT, "stop 0 end", "stop 0 after 3", UNBUILT),
         (SCRIPT, "stop 0 end", "stop 0 on stop ended", UNBUILT),
-        (SCRIPT, "rank 0 have", "rank 0 need\nrank 0 have", UNBUILT),
-        (SCRIPT, "rank 0 have", "rank 0 exit\nrank 0 have", UNBUILT),
-        (
-            NODES,
-            "rank all have",
-            "rank 3 finalize\nrank all have",
-            UNBUILT,
-        ),
     ];
     for (script, old, new, want) in table {
         let text = changed(alloc, script, old, new)?;
@@ -345,6 +369,12 @@ fn answers_calls_that_are_refused(rt: HostRuntime) -> Result<(), Fail> {
             REFUSED_CALLS,
             "decided complete phase idle\nreply 0 7 phase idle\n",
         ),
+        (
+            FINALIZED,
+            "decided finalize ok\nreply 0 1 ok\ncall 0 2 have\ndecided have phase final\n",
+        ),
+        (CHECKPOINTS, "time 0\ndecided exit no\n"),
+        (CHECKPOINTS, "time 1\ndecided exit yes checkpoints\n"),
     ];
     for (text, want) in table {
         let (status, sink) = told(alloc, text)?;
@@ -365,6 +395,9 @@ fn tells_the_whole_history(rt: HostRuntime) -> Result<(), Fail> {
         (TURNS, TURNS_TOLD),
         (ENDED_BY_TURNS, ENDED_BY_TURNS_TOLD),
         (NOT_KEPT, NOT_KEPT_TOLD),
+        (QUESTIONS, QUESTIONS_TOLD),
+        (UNASKED, UNASKED_TOLD),
+        (HALTS, HALTS_TOLD),
     ];
     for (text, want) in table {
         let (status, sink) = told(alloc, text)?;
@@ -506,6 +539,34 @@ fn tells_each_fault_of_each_device(rt: HostRuntime) -> Result<(), Fail> {
         }
         assert!(rt; faults > 5 && last == faults && last < 59, "of {failing}");
     }
+    Ok(())
+}
+
+// Whatever call of the prefix fails in commands between runs: one alone is refused, which ends with a stop, or a run ends.
+#[test]
+fn stops_behind_a_refused_command(rt: HostRuntime) -> Result<(), Fail> {
+    let alloc = rt.alloc();
+    let words = vec![in alloc; String::from_str(alloc, "run")?]?;
+    let mut refused: u64 = 0;
+    for call in 1..60u64 {
+        let mut source = source(alloc, HALTS, &[])?;
+        let mut sink = MemSink::new(alloc, Vec::new(alloc));
+        let mut clock = TickClock::new();
+        let Ok(bay) = failing_bay(alloc, 32, call) else {
+            return Ok(assert!(rt; false, "no bay"));
+        };
+        let ran = replay(alloc, &words, &mut source, &mut sink, bay, &mut clock);
+        assert_eq!(rt; ran.status, 0, "at call {call}");
+        let Ok(printed) = str::from_utf8(sink.bytes()) else {
+            return Ok(assert!(rt; false, "no text"));
+        };
+        let others = printed.replace(alloc, " = device 32 1\nstop command\n", "\n")?;
+        if others.as_str() != printed {
+            refused = refused.saturating_add(1);
+        }
+        assert!(rt; !others.contains("command"), "at call {call}");
+    }
+    assert!(rt; refused > 10, "{refused}");
     Ok(())
 }
 

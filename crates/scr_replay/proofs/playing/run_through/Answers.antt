@@ -1,5 +1,9 @@
-use Rattle.std.proofs.Common.{ℕ, ◌∙◌, sym, subst}
+use Rattle.std.proofs.Common.{ℕ, ◌∙◌, List, sym, subst, ap}
 use Rattle.ckpt_model.specs.Machine.{Setup}
+use Rattle.ckpt_model.specs.declared.event.Event.{Event}
+use Rattle.ckpt_model.specs.declared.history.History.{History}
+use Rattle.site_core.specs.Readings.{TellsReadings}
+use Rattle.site_core.proofs.Readings.{all_readings}
 use Rattle.node_device.specs.Rack.{Rack, states_of}
 use Rattle.script_reader.specs.Values.{size_of}
 use Rattle.site_core.specs.Follows.{Ends}
@@ -24,3 +28,9 @@ returns-clause-played g c =
     (ends_well (setup_of_core over.core) (states_of state c.close-history.result.bay) first over.core.places over.programs c.close-history.result.history.events over.core.stage c.in_default.ensures.stopped
     (c.close-history.ensures.ends first follows) (c.close-history.ensures.cut first follows) well))
     (λ tells m rest. c.stop_devices.ensures.stands tells _ m rest)
+
+pub returns-clause-timed : goal.returns-clause-timed
+returns-clause-timed g c =
+    let reading = g.C.Clock.reading in
+    subst (λ (events : List Event). TellsReadings (reading c.args.clock.now) (reading c.run_out-over.new.clock) events) (sym (ap (λ (h : History). h.events) c.close-history.ensures.history))
+    (all_readings (reading c.args.clock.now) (reading c.run_out-over.new.clock) c.in-Ok.site.history.events c.run_out-over.new.site.history.events c.in-Ok.ensures.empty c.in_default.ensures.timed)

@@ -1,0 +1,53 @@
+use Rattle.std.proofs.Common.{◌≡◌, List, [], ◌∷◌, ◌++◌, refl, sym, ap, ◌∙◌, subst, ℕ, Ok}
+use Rattle.node_device.specs.DeviceState.{DeviceState}
+use Rattle.node_device.specs.Rack.{states_of}
+use Rattle.ckpt_model.specs.declared.event.Event.{Event}
+use Rattle.ckpt_model.specs.declared.event.Event.TheVariants as event
+use Rattle.ckpt_model.specs.Track.{Track}
+use Rattle.site_core.specs.Readings.{TellsReadings}
+use Rattle.ckpt_model.specs.declared.event.CommandAnswer.TheVariants as told
+use Rattle.ckpt_model.specs.declared.event.StopCause.TheVariants as cause
+use Rattle.admin.specs.Commands.{word_of}
+use Rattle.admin.specs.Running.{RunsHalt}
+use Rattle.admin.specs.declared.answer.Answer.{Answer}
+use Rattle.admin.specs.declared.answer.Answer.TheVariants as admin
+use Rattle.site_core.proofs.Telling.{tells_of, tells_all}
+use Rattle.script_reader.specs.declared.script.Item.TheVariants as item
+use Rattle.scr_replay.specs.Items.{legal_item}
+use Rattle.scr_replay.specs.Runs.{IsPlayed}
+use Rattle.scr_replay.proofs.Commanded.{halt_command, done_played, refused_played, done_told, refused_told, if_ok2}
+use Rattle.scr_replay.proofs.commanding.carry_out.Goals as goal
+
+pub run_command-requires : goal.run_command-requires
+run_command-requires g c = record { halt_command = halt_command c.args.command.now c.requires }
+
+pub returns-in-Done-clause-played : goal.returns-in-Done-clause-played
+returns-in-Done-clause-played g c = λ s.
+    let state = g.D.Device.state in
+    let old = states_of state c.args.bay in
+    let new = states_of state c.run_command.new.bay in
+    subst (λ (events : List Event). IsPlayed state s (legal_item (item.Admin c.args.command.now) ∷ []) old new events)
+    (sym (done_told c.new-history.result.events c.reserve.new.self.events c.push.new.self.events c.in-Ok-word_of.word (word_of c.args.command.now) c.in-Ok-run_command.answer c.told_answer.result (ap (λ (t : Track). t.events) c.new-history.ensures) c.in-Ok.ensures.events c.in-Ok-push.ensures.events c.in-Ok-word_of.ensures c.told_answer.ensures c.in-Done.is))
+    (done_played state s c.args.command.now old new c.requires
+    (λ tells m stands. c.run_command.ensures.halt.stands stands.quiet (tells_of state tells c.args.bay 32) (c.in-Ok-run_command.is ∙ ap (λ (a : Answer). Ok a) c.in-Done.is)))
+
+pub returns-in_default-answer-clause-played : goal.returns-in_default-answer-clause-played
+returns-in_default-answer-clause-played g c =
+    if_ok2 c.stop_behind.result (λ closed told stopped s.
+    let state = g.D.Device.state in
+    let old = states_of state c.args.bay in
+    let left = states_of state closed.bay in
+    let a = c.in-Ok-run_command.answer in
+    subst (λ (events : List Event). IsPlayed state s (legal_item (item.Admin c.args.command.now) ∷ []) old left events)
+    (sym (refused_told c.new-history.result.events c.reserve.new.self.events c.push.new.self.events closed.history.events c.in-Ok-word_of.word (word_of c.args.command.now) a c.told_answer.result (ap (λ (t : Track). t.events) c.new-history.ensures) c.in-Ok.ensures.events c.in-Ok-push.ensures.events told c.in-Ok-word_of.ensures c.told_answer.ensures))
+    (refused_played state s c.args.command.now a old left c.requires c.in_default-answer.not-Done
+    (λ tells m stands. c.run_command.ensures.halt.stops stands.quiet left stopped (tells_all state tells closed.bay))))
+    c.stop_behind.ensures.told c.stop_behind.ensures.stopped
+
+pub returns-in_default-answer-clause-timed : goal.returns-in_default-answer-clause-timed
+returns-in_default-answer-clause-timed g c =
+    if_ok2 c.stop_behind.result (λ closed told stopped next.
+    subst (λ (events : List Event). TellsReadings next next events)
+    (sym (refused_told c.new-history.result.events c.reserve.new.self.events c.push.new.self.events closed.history.events c.in-Ok-word_of.word (word_of c.args.command.now) c.in-Ok-run_command.answer c.told_answer.result (ap (λ (t : Track). t.events) c.new-history.ensures) c.in-Ok.ensures.events c.in-Ok-push.ensures.events told c.in-Ok-word_of.ensures c.told_answer.ensures))
+    (record { readings = tt; next = refl }))
+    c.stop_behind.ensures.told c.stop_behind.ensures.stopped
