@@ -1,13 +1,12 @@
 -- A command on the conditions on which the job is to stop is a step of the machine, and the devices stand behind it.
-use Rattle.std.proofs.Common.{◌≡◌, inl, inr, ℕ, ◌≤◌, Bool, true, false, List, [], ◌∷◌, ◌++◌, Option, Some, None, refl, sym, ap, ◌∙◌, subst, Result, Ok, Err, IfOk}
-use Rattle.std.specs.List.{list_all}
+use Rattle.std.proofs.Common.{◌≡◌, inl, inr, ℕ, Bool, true, false, List, [], ◌∷◌, ◌++◌, Option, refl, sym, ap, ◌∙◌, subst, Result, Ok, Err, IfOk}
 use Rattle.scr_base.specs.Halt.{Halt, halt_after}
 use Rattle.scr_base.specs.declared.content.HaltWord.{HaltWord}
 use Rattle.node_device.specs.DeviceState.{DeviceState}
 use Rattle.admin.specs.Causes.{wanted}
 use Rattle.admin.specs.Commands.{IsHaltCommand, word_of}
 use Rattle.admin.specs.Halting.{IsOldOrWanted}
-use Rattle.admin.specs.Running.{StandsWith, RunsHalt, IsStop, Tells}
+use Rattle.admin.specs.Running.{StandsWith}
 use Rattle.admin.specs.declared.answer.Answer.{Answer}
 use Rattle.admin.specs.declared.answer.Answer.TheVariants as admin
 use Rattle.admin.specs.declared.command.Command.{Command}
@@ -16,16 +15,15 @@ use Rattle.ckpt_model.specs.Legal.{Item, IsLegal, Gives}
 use Rattle.ckpt_model.specs.Legal.Item.{SetHalt}
 use Rattle.ckpt_model.specs.Machine.{Machine, Setup, Stage, Pending}
 use Rattle.ckpt_model.specs.Moves.{after}
-use Rattle.ckpt_model.specs.Runs.{RunsTo, StepsTo}
+use Rattle.ckpt_model.specs.Runs.{StepsTo}
 use Rattle.ckpt_model.specs.Steps.{is_between}
-use Rattle.ckpt_model.specs.Stops.{Choice, after_stop, index_left}
+use Rattle.ckpt_model.specs.Stops.{after_stop, index_left}
 use Rattle.ckpt_model.specs.declared.event.Event.{Event}
 use Rattle.ckpt_model.specs.declared.event.Event.TheVariants as event
 use Rattle.ckpt_model.specs.declared.event.StopCause.TheVariants as cause
 use Rattle.ckpt_model.specs.declared.event.CommandAnswer.{CommandAnswer}
 use Rattle.ckpt_model.specs.declared.event.CommandAnswer.TheVariants as told
 use Rattle.site_core.specs.Calls.{TellsAll}
-use Rattle.site_core.specs.Follows.{Stands}
 use Rattle.site_core.specs.Holds.{StandsFor}
 use Rattle.site_core.proofs.HaltCommands.{halt_stands}
 use Rattle.script_reader.specs.declared.script.Item.TheVariants as item

@@ -5,18 +5,17 @@ use Rattle.std.proofs.lemmas.List.{take_more, map-append}
 use Rattle.std.proofs.lemmas.Bool.Decides.{nat_tests}
 use Rattle.scr_base.specs.declared.actor.Actor.{Actor}
 use Rattle.scr_base.specs.declared.actor.Actor.TheVariants as actor
-use Rattle.scr_base.specs.declared.content.Step.{Step}
 use Rattle.site_core.specs.Follows.{IsActor}
 use Rattle.admin.specs.declared.command.Command.{Command}
 use Rattle.script_reader.specs.declared.script.Item.{Item}
 use Rattle.script_reader.specs.declared.script.Item.TheVariants.{Run, Lose, Scavenge, Admin}
 use Rattle.script_reader.specs.declared.script.RunItem.{RunItem}
 use Rattle.script_reader.specs.declared.script.Script.{Script}
-use Rattle.script_reader.specs.Values.{Size, size_of, ranks_of}
+use Rattle.script_reader.specs.Values.{Size, size_of}
 use Rattle.script_reader.specs.Grammar.{Job, job_of}
 use Rattle.scr_replay.specs.Items.{legal_item, legal_items}
 use Rattle.scr_replay.specs.Statuses.{IsBuilt}
-use Rattle.scr_replay.specs.Forms.{is_end, ends_by_itself, has_actor, has_turn, is_in_order, is_of_site, are_built_steps, is_built_run, is_halt_command, is_built_item, is_single, first_steps, has_room, is_unflushed, is_built}
+use Rattle.scr_replay.specs.Forms.{is_end, ends_by_itself, has_actor, is_in_order, is_of_site, are_built_steps, is_built_run, is_halt_command, is_built_item, is_single, first_steps, has_room, is_unflushed, is_built}
 
 pub both : (a b : Bool) → (a && b) ≡ true → (a ≡ true) × (b ≡ true)
 both true b h = (refl, h)

@@ -1,5 +1,5 @@
 -- Turns, one after another, leave less ahead of a run, or leave it as it was.
-use Rattle.std.proofs.Common.{◌≡◌, ◌⊎◌, inl, inr, ◌<◌, ℕ, Bool, true, false, ap, ◌∙◌, refl, arith}
+use Rattle.std.proofs.Common.{inl, inr, ℕ, ap, ◌∙◌, refl, arith}
 use Rattle.site_core.specs.Ahead.{ahead, Lowers}
 use Rattle.site_core.specs.Follows.{Stays}
 use Rattle.site_core.specs.declared.site.Site.{Site}

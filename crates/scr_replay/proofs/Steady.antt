@@ -1,5 +1,5 @@
 -- A run stays the same one, turn after turn.
-use Rattle.std.proofs.Common.{◌≡◌, ◌≤◌, refl, ◌∙◌}
+use Rattle.std.proofs.Common.{refl, ◌∙◌}
 use Rattle.site_core.specs.declared.site.Site.{Site}
 use Rattle.site_core.specs.Follows.{IsSameRun}
 

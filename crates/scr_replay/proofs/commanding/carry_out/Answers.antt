@@ -1,16 +1,10 @@
-use Rattle.std.proofs.Common.{◌≡◌, List, [], ◌∷◌, ◌++◌, refl, sym, ap, ◌∙◌, subst, ℕ, Ok}
-use Rattle.node_device.specs.DeviceState.{DeviceState}
+use Rattle.std.proofs.Common.{List, [], ◌∷◌, refl, sym, ap, ◌∙◌, subst, Ok}
 use Rattle.node_device.specs.Rack.{states_of}
 use Rattle.ckpt_model.specs.declared.event.Event.{Event}
-use Rattle.ckpt_model.specs.declared.event.Event.TheVariants as event
 use Rattle.ckpt_model.specs.Track.{Track}
 use Rattle.site_core.specs.Readings.{TellsReadings}
-use Rattle.ckpt_model.specs.declared.event.CommandAnswer.TheVariants as told
-use Rattle.ckpt_model.specs.declared.event.StopCause.TheVariants as cause
 use Rattle.admin.specs.Commands.{word_of}
-use Rattle.admin.specs.Running.{RunsHalt}
 use Rattle.admin.specs.declared.answer.Answer.{Answer}
-use Rattle.admin.specs.declared.answer.Answer.TheVariants as admin
 use Rattle.site_core.proofs.Telling.{tells_of, tells_all}
 use Rattle.script_reader.specs.declared.script.Item.TheVariants as item
 use Rattle.scr_replay.specs.Items.{legal_item}

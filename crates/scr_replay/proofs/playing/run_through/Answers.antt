@@ -1,10 +1,10 @@
-use Rattle.std.proofs.Common.{ℕ, ◌∙◌, List, sym, subst, ap}
+use Rattle.std.proofs.Common.{◌∙◌, List, sym, subst, ap}
 use Rattle.ckpt_model.specs.Machine.{Setup}
 use Rattle.ckpt_model.specs.declared.event.Event.{Event}
 use Rattle.ckpt_model.specs.declared.history.History.{History}
 use Rattle.site_core.specs.Readings.{TellsReadings}
 use Rattle.site_core.proofs.Readings.{all_readings}
-use Rattle.node_device.specs.Rack.{Rack, states_of}
+use Rattle.node_device.specs.Rack.{states_of}
 use Rattle.script_reader.specs.Values.{size_of}
 use Rattle.site_core.specs.Follows.{Ends}
 use Rattle.site_core.specs.Shown.{setup_of as setup_of_core}
