@@ -10,7 +10,9 @@ mod stripes;
 #[cfg(test)]
 mod tests;
 
+pub use known::complete;
 pub use member::member_of;
 pub use partner_copy::Held;
 pub use process_sets::{SetError, Sets};
 pub use recovery::{RecoverError, recover};
+pub use stripes::Stripes;

@@ -1,0 +1,3 @@
+pub mod ClaimFacts
+pub mod Known
+pub mod Parts

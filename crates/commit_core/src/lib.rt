@@ -1,0 +1,13 @@
+//! Claims on the shares of a dataset that is being made whole, and the deposits that answer them.
+#![tactic(auto)]
+
+mod claim;
+mod deposit;
+mod laws;
+mod stripe;
+mod working;
+
+pub use claim::Claim;
+pub use deposit::Deposit;
+pub use laws::deposits_are_shares;
+pub use working::work;
