@@ -5,6 +5,8 @@ mod claim;
 mod deposit;
 mod laws;
 mod stripe;
+#[cfg(test)]
+mod tests;
 mod working;
 
 pub use claim::Claim;
