@@ -1,3 +1,4 @@
 pub mod ClaimFacts
 pub mod Known
 pub mod Parts
+pub mod OnePiece

@@ -7,11 +7,15 @@ use std::alloc::Global;
 /// A piece of what the members of a set keep for one another, which is to be computed. It has all that it takes.
 #[derive(Debug, Drop)]
 pub struct Claim {
+    /// Tells the claim from others.
     pub number: u64,
+    /// The dataset that is being made whole.
     pub which: DataId,
     /// How the set is kept, which isn't SINGLE.
     pub scheme: Scheme,
+    /// The local number of the set's ranks.
     pub local: u8,
+    /// The group of the set's nodes.
     pub group: u8,
     /// The stripe in which the target has parity; 0 for PARTNER.
     pub stripe: u8,
