@@ -54,3 +54,4 @@ pub mod AheadCores
 pub mod Orders
 pub mod InOrder
 pub mod Accounts
+pub mod Carrying

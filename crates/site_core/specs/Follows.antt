@@ -16,6 +16,7 @@ use Rattle.ckpt_model.specs.Runs.{RunsTo, StepsTo}
 use Rattle.ckpt_model.specs.declared.event.Event.{Event}
 use Rattle.ckpt_model.specs.declared.event.Event.TheVariants as event
 use Rattle.ckpt_model.specs.declared.event.Kind.{Kind}
+use Rattle.ckpt_model.specs.declared.event.Kind.TheVariants as kinds
 use Rattle.round_core.specs.declared.seat.Seat.{Seat}
 use Rattle.scr_base.specs.Calls.{is_local, is_end}
 use Rattle.scr_base.specs.declared.answers.Refusal.{Refusal}
@@ -240,6 +241,26 @@ pub record IsSameRun {D : Type 0} (old new : Site D) : Type 0 where
 abbrev pub IsActor : ℕ → Actor → Type 0
 IsActor ranks (Rank rank) = rank < ranks
 IsActor ranks _ = Unit {0}
+
+-- ## What becomes of a refusal that a round carries
+
+-- nothing was told, and the round carries the refusal still
+pub record CarriesStill (refusal : Refusal) (new : Core) (before after : List Event) : Type 0 where
+  pub carries : carried new ≡ Some refusal
+  pub told : after ≡ before
+
+-- the round was decided by the refusal, which was the one thing told, and none is carried any more
+pub record DecidesBy (refusal : Refusal) (new : Core) (before after : List Event) : Type 0 where
+  pub told : after ≡ before ++ event.Decided kinds.Complete (replies.Refused refusal) ∷ []
+  pub none : carried new ≡ None
+
+-- what becomes of a refusal that a round carries: it stays, or the round is decided by it, or the run is over
+abbrev pub BecomesOf : Refusal → Core → List Event → List Event → Type 0
+BecomesOf refusal new before after = CarriesStill refusal new before after ⊎ (DecidesBy refusal new before after ⊎ (is_over new.stage ≡ true))
+
+-- the refusal that a round carries stays until the round is decided by it, or the run is over
+abbrev pub KeepsCarried : {D : Type 0} → Site D → Site D → Type 0
+KeepsCarried old new = (refusal : Refusal) → carried old.core ≡ Some refusal → BecomesOf refusal new.core old.history.events new.history.events
 
 -- ## What a move may do
 

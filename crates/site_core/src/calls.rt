@@ -7,7 +7,7 @@ ghost use Rattle.round_core.specs.Seats.{next_number, is_missing};
 ghost use Rattle.site_core.specs.Waiting.{changes_left, rank_turn, serving_turn, round_turn, free_turn};
 ghost use Rattle.site_core.specs.Ahead.{Lowers};
 ghost use Rattle.site_core.specs.Order.{KeepsOrder};
-ghost use Rattle.site_core.specs.Follows.{Keeps, TellsBy, IsOfRank, IsOfRound, IsSameRun, Stays, IsFreeSeat, IsNextCall, TellsFaults};
+ghost use Rattle.site_core.specs.Follows.{Keeps, TellsBy, IsOfRank, IsOfRound, IsSameRun, Stays, IsFreeSeat, IsNextCall, TellsFaults, KeepsCarried};
 ghost use Rattle.site_core.specs.Causes.{IsCalm};
 
 use crate::core_state::{Stage, Work};
@@ -31,6 +31,7 @@ impl<D: Device> Site<D> {
         ensures refused { OnErr result (self.new.history.events ≡ self.old.history.events) }
         ensures calm { OnErr result (IsCalm (states_of D.state self.old.bay) (states_of D.state self.new.bay)) }
         ensures accounted { OnOk result (TellsFaults D.state self.old self.new) }
+        ensures kept { OnOk result (KeepsCarried self.old self.new) }
         ensures fixed { IsSameRun self.old self.new }
         ensures still { IfOk result (λ turn. Stays turn self.old self.new) }
         ensures waits { IfOk result (λ turn. turn ≡ rank_turn self.old.core.stage self.old.core self.old.programs rank) }

@@ -5,7 +5,7 @@ ghost use Rattle.scr_base.specs.Calls.{asks_time};
 ghost use Rattle.site_core.specs.Choosing.{is_needed, wants_reading};
 ghost use Rattle.site_core.specs.Ahead.{ahead};
 ghost use Rattle.site_core.specs.Order.{KeepsOrder};
-ghost use Rattle.site_core.specs.Follows.{Keeps, IsSameRun, IsTold};
+ghost use Rattle.site_core.specs.Follows.{Keeps, IsSameRun, IsTold, KeepsCarried};
 
 use crate::core_state::{Core, Stage};
 use crate::error::SiteError;
@@ -63,6 +63,7 @@ impl<D: Device> Site<D> {
         ensures order { KeepsOrder self.old self.new }
         ensures told { OnOk result (IsTold now self.old self.new) }
         ensures refused { OnErr result (self.new ≡ self.old) }
+        ensures kept { KeepsCarried self.old self.new }
         ensures fixed { IsSameRun self.old self.new }
     {
         let moves = self.moves;

@@ -1,8 +1,12 @@
 //! What holds of every run's memory.
-ghost use Rattle.std.specs.Prelude.{◌≡◌, ◌≤◌, List, None, false, length};
+ghost use Rattle.std.specs.Prelude.{◌≡◌, ◌≤◌, ◌++◌, ◌∷◌, [], ℕ, List, None, Some, false, length};
+ghost use Rattle.scr_base.specs.declared.answers.Refusal.{Refusal};
 ghost use Rattle.scr_base.specs.declared.content.Step.{Step};
+ghost use Rattle.ckpt_model.specs.declared.event.Event.{Event};
+ghost use Rattle.ckpt_model.specs.declared.event.Event.TheVariants as event;
 ghost use Rattle.site_core.specs.declared.core_state.Core.{Core};
 ghost use Rattle.site_core.specs.Choosing.{due_in, wants_reading};
+ghost use Rattle.site_core.specs.Follows.{carried, CarriesNoMore, BecomesOf};
 ghost use Rattle.site_core.specs.Order.{GoesOn, HasEnds, IsInOrder};
 ghost use Rattle.site_core.specs.Waiting.{is_over};
 
@@ -10,4 +14,10 @@ ghost use Rattle.site_core.specs.Waiting.{is_over};
 /// flushed, the turn of some actor moves.
 pub fn a_run_goes_on()
     ensures { (c : Core) (programs : List (List Step)) → 1 ≤ length c.ranks → is_over c.stage ≡ false → wants_reading c ≡ false → due_in c ≡ None → HasEnds (length c.ranks) programs → IsInOrder programs c.ranks → GoesOn c programs }
+{}
+
+/// Where a turn tells a rank's call, the round carries no refusal then: so it carries none when it becomes complete. The premises
+/// are what a rank's turn promises.
+pub fn a_call_finds_none_carried()
+    ensures { (old new : Core) (before : List Event) (rank number : ℕ) (call : Step) → CarriesNoMore old new → ((refusal : Refusal) → carried old ≡ Some refusal → BecomesOf refusal new before (before ++ event.Call rank number call ∷ [])) → carried new ≡ None }
 {}

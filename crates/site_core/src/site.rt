@@ -75,7 +75,7 @@ impl<D: Device> Site<D> {
     ghost use Rattle.site_core.specs.Ahead.{Lowers};
     ghost use Rattle.site_core.specs.Order.{IsInOrder, KeepsOrder};
     ghost use Rattle.site_core.specs.Causes.{IsCalm};
-    ghost use Rattle.site_core.specs.Follows.{Keeps, Follows, Stands, Ends, WasCut, HasStopped, TellsBy, AccountsBy, IsOf, IsActor, IsSameRun, IsHalted, Stays, Counts};
+    ghost use Rattle.site_core.specs.Follows.{Keeps, Follows, Stands, Ends, WasCut, HasStopped, TellsBy, AccountsBy, IsOf, IsActor, IsSameRun, IsHalted, KeepsCarried, Stays, Counts};
 
     /// Begins a run over a bay, which it leaves as it is. The bay comes back where there is no memory. The places are those of
     /// the nodes in their order, and each rank has a program.
@@ -128,6 +128,7 @@ impl<D: Device> Site<D> {
         ensures refused { OnErr result (self.new.history.events ≡ self.old.history.events) }
         ensures calm { OnErr result (IsCalm (states_of D.state self.old.bay) (states_of D.state self.new.bay)) }
         ensures accounted { OnOk result (AccountsBy actor D.state self.old self.new) }
+        ensures kept { OnOk result (KeepsCarried self.old self.new) }
         ensures fixed { IsSameRun self.old self.new }
         ensures still { IfOk result (λ turn. Stays turn self.old self.new) }
         ensures waits { IfOk result (λ turn. turn ≡ turn_of self.old.core self.old.programs actor) }
@@ -153,6 +154,7 @@ impl<D: Device> Site<D> {
         ensures refused { OnErr result (self.new.history.events ≡ self.old.history.events) }
         ensures calm { OnErr result (IsCalm (states_of D.state self.old.bay) (states_of D.state self.new.bay)) }
         ensures accounted { OnOk result (AccountsBy actor D.state self.old self.new) }
+        ensures kept { OnOk result (KeepsCarried self.old self.new) }
         ensures fixed { IsSameRun self.old self.new }
         ensures still { IfOk result (λ turn. Stays turn self.old self.new) }
         ensures waits { IfOk result (λ turn. turn ≡ turn_of self.old.core self.old.programs actor) }
