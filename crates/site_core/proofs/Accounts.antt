@@ -47,20 +47,20 @@ pub well_then : {D : Type 0} {state : D → DeviceState} {old new : Site D} (bay
 well_then {D} {state} {old} bay same calm carries = record { faults = inl (subst (λ (b : Rack D). IsCalm (states_of state old.bay) (states_of state b)) (sym same) calm); carries = carries }
 
 -- a call was refused, and a rank's step is told so
-module _ {D : Type 0} (state : D → DeviceState) (old new : Site D) (bay : Rack D) (same : new.bay ≡ bay) (T : Type 0) where
-  caused : (t : Trouble) → CallCause {T = T} (states_of state old.bay) (states_of state bay) (Err t) → CallCause {T = T} (states_of state old.bay) (states_of state new.bay) (Err t)
-  caused t why = subst (λ (b : Rack D). CallCause {T = T} (states_of state old.bay) (states_of state b) (Err t)) (sym same) why
+module _ {D : Type 0} (state : D → DeviceState) (old new : Site D) (bay : Rack D) (same : new.bay ≡ bay) (T : Type 0) (may : ℕ → List ℕ → ℕ → ℕ → Type 0) where
+  caused : (t : Trouble) → CallCause {T = T} may (states_of state old.bay) (states_of state bay) (Err t) → CallCause {T = T} may (states_of state old.bay) (states_of state new.bay) (Err t)
+  caused t why = subst (λ (b : Rack D). CallCause {T = T} may (states_of state old.bay) (states_of state b) (Err t)) (sym same) why
 
   same_refusal : (x y : Refusal) → Some x ≡ Some y → reply.Refused y ≡ reply.Refused x
   same_refusal x y e = cc
 
-  step_told : (t : Trouble) (r : Refusal) (rank number : ℕ) (call : Step) → told_trouble t ≡ Some r → CallCause {T = T} (states_of state old.bay) (states_of state new.bay) (Err t) → new.history.events ≡ old.history.events ++ event.Local rank number call (reply.Refused r) ∷ []
+  step_told : (t : Trouble) (r : Refusal) (rank number : ℕ) (call : Step) → told_trouble t ≡ Some r → CallCause {T = T} may (states_of state old.bay) (states_of state new.bay) (Err t) → new.history.events ≡ old.history.events ++ event.Local rank number call (reply.Refused r) ∷ []
       → IsCalm (states_of state old.bay) (states_of state new.bay) ⊎ TellsFault (states_of state old.bay) (states_of state new.bay) old.history.events new.history.events
   step_told error.Memory r rank number call told why is = inl why
   step_told (error.Fault node count) r rank number call told why is = inr (record { node = node; count = count; fault = why; told = event.Local rank number call (reply.Refused r); is = is; tells = same_refusal (refusal.Device node count) r told })
   step_told (error.Full node used capacity) r rank number call told why is = inl why.calm
 
-  pub refusal_told : (t : Trouble) (r : Refusal) (rank number : ℕ) (call : Step) → told_trouble t ≡ Some r → CallCause {T = T} (states_of state old.bay) (states_of state bay) (Err t) → new.history.events ≡ old.history.events ++ event.Local rank number call (reply.Refused r) ∷ []
+  pub refusal_told : (t : Trouble) (r : Refusal) (rank number : ℕ) (call : Step) → told_trouble t ≡ Some r → CallCause {T = T} may (states_of state old.bay) (states_of state bay) (Err t) → new.history.events ≡ old.history.events ++ event.Local rank number call (reply.Refused r) ∷ []
       → CarriesNoMore old.core new.core → TellsFaults state old new
   refusal_told t r rank number call told why is carries = record { faults = step_told t r rank number call told (caused t why) is; carries = carries }
 
@@ -73,10 +73,10 @@ across state old mid new events core same t = record {
 }
 
 -- the run was ended by a call that was refused
-pub end_told : {D : Type 0} (state : D → DeviceState) (old new : Site D) (bay : Rack D) → new.bay ≡ bay → (T : Type 0) (t : Trouble) → is_told t ≡ true → CallCause {T = T} (states_of state old.bay) (states_of state bay) (Err t) → new.history.events ≡ old.history.events ++ event.Stop (cause_of t) ∷ []
+pub end_told : {D : Type 0} (state : D → DeviceState) (old new : Site D) (bay : Rack D) → new.bay ≡ bay → (T : Type 0) (may : ℕ → List ℕ → ℕ → ℕ → Type 0) (t : Trouble) → is_told t ≡ true → CallCause {T = T} may (states_of state old.bay) (states_of state bay) (Err t) → new.history.events ≡ old.history.events ++ event.Stop (cause_of t) ∷ []
     → CarriesNoMore old.core new.core → TellsFaults state old new
-end_told state old new bay same T t told why is carries = record { faults = pick t told (caused state old new bay same T t why) is; carries = carries } where
-  pick : (t : Trouble) → is_told t ≡ true → CallCause {T = T} (states_of state old.bay) (states_of state new.bay) (Err t) → new.history.events ≡ old.history.events ++ event.Stop (cause_of t) ∷ [] → IsCalm (states_of state old.bay) (states_of state new.bay) ⊎ TellsFault (states_of state old.bay) (states_of state new.bay) old.history.events new.history.events
+end_told state old new bay same T may t told why is carries = record { faults = pick t told (caused state old new bay same T may t why) is; carries = carries } where
+  pick : (t : Trouble) → is_told t ≡ true → CallCause {T = T} may (states_of state old.bay) (states_of state new.bay) (Err t) → new.history.events ≡ old.history.events ++ event.Stop (cause_of t) ∷ [] → IsCalm (states_of state old.bay) (states_of state new.bay) ⊎ TellsFault (states_of state old.bay) (states_of state new.bay) old.history.events new.history.events
   pick error.Memory told why is = absurd (cc told)
   pick (error.Fault node count) told why is = inr (record { node = node; count = count; fault = why; told = event.Stop (stops.Device node count); is = is; tells = refl })
   pick (error.Full node used capacity) told why is = inl why.calm

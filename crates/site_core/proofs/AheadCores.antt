@@ -40,7 +40,8 @@ use Rattle.site_core.specs.Cores.{dropping_core, next_drop_core, closed_core, se
 use Rattle.site_core.specs.Choosing.{verdict_of}
 use Rattle.site_core.specs.Looks.{is_standing, found_member}
 use Rattle.site_core.specs.Waiting.{is_over}
-use Rattle.site_core.specs.Follows.{IsNextCall, IsNextLocal, IsClearRound, IsRefusedRound}
+use Rattle.site_core.specs.Follows.{IsClearRound, IsRefusedRound}
+use Rattle.site_core.specs.Steps.{IsNextCall, IsNextLocal}
 use Rattle.site_core.specs.Ahead.{removal_ahead, round_ahead, work_ahead, save_ahead, open_ahead, clock_ahead, stage_ahead, call_ahead, seat_ahead, seats_ahead, ranks_ahead, some_calls, ahead, Lowers, IsToRecord}
 use Rattle.site_core.proofs.Serving.{some_same}
 use Rattle.site_core.proofs.Telling.{on_ok}

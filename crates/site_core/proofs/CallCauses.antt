@@ -1,5 +1,5 @@
 -- Why a site refuses after one call on a device of its bay.
-use Rattle.std.proofs.Common.{◌≡◌, ◌≢◌, ◌<◌, ℕ, Bool, true, List, length, Option, Some, None, IsSomeAnd, option_map, Ok, Err, unwrap_or, refl, sym, ap, ◌∙◌, subst, inl, inr, arith}
+use Rattle.std.proofs.Common.{◌≡◌, ◌≢◌, ◌<◌, ◌+◌, ℕ, Bool, true, List, length, Option, Some, None, IsSomeAnd, option_map, Ok, Err, unwrap_or, refl, sym, ap, ◌∙◌, subst, inl, inr, arith}
 use Rattle.std.specs.List.{sum_by}
 use Rattle.scr_base.specs.declared.shape.DataId.{DataId}
 use Rattle.std.proofs.lemmas.Bool.{cases_eq}
@@ -16,9 +16,11 @@ use Rattle.member_store.specs.Members.{member_body}
 use Rattle.member_store.specs.Calls.{WritesPart, WritesMember, SetsGate, gate_number}
 use Rattle.member_store.specs.declared.part.Part.{Part}
 use Rattle.member_store.specs.declared.gates.MemberGate.{MemberGate}
-use Rattle.member_store.specs.declared.gates.MemberGate.TheVariants as gates
 use Rattle.site_core.specs.Calls.{Recorded, Turned}
-use Rattle.site_core.specs.Causes.{CallCause, IsCalm, PassesAt, trouble_of}
+use Rattle.site_core.specs.Causes.{CallCause, IsCalm, IsFull, PassesAt, trouble_of}
+use Rattle.site_core.specs.Writes.{IsWrite, IsNoWrite}
+use Rattle.site_core.specs.declared.error.Trouble.{Trouble}
+use Rattle.site_core.specs.declared.error.Trouble.TheVariants as error
 
 -- a call left the lengths and the capacity as they were
 pub record KeepsUse (old new : DeviceState) : Type 0 where
@@ -37,14 +39,14 @@ alike_use old new alike =
     }
 
 -- a call that a full device refused
-pub record IsRefusedFull (place : ℕ) (old new : DeviceState) : Type 0 where
-  pub passes : PassesAt place old
+pub record IsRefusedFull (may : ℕ → List ℕ → ℕ → ℕ → Type 0) (place : ℕ) (old new : DeviceState) : Type 0 where
+  pub passes : PassesAt may place old
   pub kept : KeepsUse old new
 
 -- why a call was refused, of one device
-abbrev pub RefusedFor : ℕ → DevError → DeviceState → DeviceState → Type 0
-RefusedFor place device.Full old new = IsRefusedFull place old new
-RefusedFor place _ old new = Unit {0}
+abbrev pub RefusedFor : (ℕ → List ℕ → ℕ → ℕ → Type 0) → ℕ → DevError → DeviceState → DeviceState → Type 0
+RefusedFor may place device.Full old new = IsRefusedFull may place old new
+RefusedFor may place _ old new = Unit {0}
 
 module _ (place : ℕ) (old new : ℕ → DeviceState) (others : (q : ℕ) → q ≢ place → new q ≡ old q) where
   -- where the device's count stayed, each one did
@@ -55,39 +57,52 @@ module _ (place : ℕ) (old new : ℕ → DeviceState) (others : (q : ℕ) → q
   ]
 
   -- the site refuses as the device did
-  pub refused : (T U : Type 0) (error : DevError) → HasDeviceCause {T = T} (old place) (new place) (Err error) → RefusedFor place error (old place) (new place) → CallCause {T = U} old new (Err (trouble_of place (new place) error))
-  refused T U device.Failed cause why = record { now = refl; rose = cause; others = λ q ne. ap (λ (d : DeviceState). d.faults) (others q ne) }
-  refused T U device.Full cause why = record { used_is = why.kept.used; capacity_is = why.kept.capacity; passes = why.passes; calm = calm_at cause }
-  refused T U device.NoFile cause why = calm_at cause
-  refused T U device.Range cause why = calm_at cause
-  refused T U device.Memory cause why = calm_at cause
+  pub refused : (T U : Type 0) (may : ℕ → List ℕ → ℕ → ℕ → Type 0) (error : DevError) → HasDeviceCause {T = T} (old place) (new place) (Err error) → RefusedFor may place error (old place) (new place) → CallCause {T = U} may old new (Err (trouble_of place (new place) error))
+  refused T U may device.Failed cause why = record { now = refl; rose = cause; others = λ q ne. ap (λ (d : DeviceState). d.faults) (others q ne) }
+  refused T U may device.Full cause why = record { used_is = why.kept.used; capacity_is = why.kept.capacity; passes = why.passes; calm = calm_at cause }
+  refused T U may device.NoFile cause why = calm_at cause
+  refused T U may device.Range cause why = calm_at cause
+  refused T U may device.Memory cause why = calm_at cause
+
+-- the writes that may be made are among others
+pub full_by : (may more : ℕ → List ℕ → ℕ → ℕ → Type 0) → ((p : ℕ) (n : List ℕ) (a k : ℕ) → may p n a k → more p n a k) → (old new : ℕ → DeviceState) (node used capacity : ℕ) → IsFull may old new node used capacity → IsFull more old new node used capacity
+full_by may more by old new node used capacity f = record {
+  used_is = f.used_is;
+  capacity_is = f.capacity_is;
+  passes = record { name = f.passes.name; at = f.passes.at; count = f.passes.count; own = by node f.passes.name f.passes.at f.passes.count f.passes.own; passes = f.passes.passes };
+  calm = f.calm;
+}
+
+pub cause_by : (T : Type 0) (may more : ℕ → List ℕ → ℕ → ℕ → Type 0) → ((p : ℕ) (n : List ℕ) (a k : ℕ) → may p n a k → more p n a k) → (old new : ℕ → DeviceState) (t : Trouble) → CallCause {T = T} may old new (Err t) → CallCause {T = T} more old new (Err t)
+cause_by T may more by old new error.Memory why = why
+cause_by T may more by old new (error.Fault node count) why = why
+cause_by T may more by old new (error.Full node used capacity) why = full_by may more by old new node used capacity why
+
+pub no_write : (T : Type 0) (more : ℕ → List ℕ → ℕ → ℕ → Type 0) (old new : ℕ → DeviceState) (t : Trouble) → CallCause {T = T} IsNoWrite old new (Err t) → CallCause {T = T} more old new (Err t)
+no_write T more old new t why = cause_by T IsNoWrite more (λ p n a k never. absurd never) old new t why
 
 -- ## Each call that writes
 
-pub part_refused : {T : Type 0} (place : ℕ) (which : DataId) (node : ℕ) (part : Part) (at : ℕ) (bytes : List ℕ) (old new : DeviceState) (error : DevError) → place < 32 → WritesPart {T = T} which node part at bytes (Err error) old new → RefusedFor place error old new
-part_refused place which node part at bytes old new device.Full low w = record {
-  passes = record { name = part_name which node part; at = at; count = length bytes; own = inr (low, inr (which, node, part, refl, w.answer.0)); passes = w.answer.1 };
+pub part_refused : {T : Type 0} (place : ℕ) (which : DataId) (node : ℕ) (part : Part) (at : ℕ) (bytes : List ℕ) (old new : DeviceState) (error : DevError) → WritesPart {T = T} which node part at bytes (Err error) old new → RefusedFor (IsWrite place (part_name which node part) at (length bytes)) place error old new
+part_refused place which node part at bytes old new device.Full w = record {
+  passes = record { name = part_name which node part; at = at; count = length bytes; own = (refl, refl, refl, refl); passes = w.answer.1 };
   kept = alike_use old new w.refused;
 }
-part_refused place which node part at bytes old new _ low w = tt
+part_refused place which node part at bytes old new _ w = tt
 
-pub record_refused : {T : Type 0} (place node : ℕ) (desc : Desc) (files : List (List FileRow)) (old new : DeviceState) (error : DevError) → place < 32 → WritesMember {T = T} desc.which node desc files (Err error) old new → RefusedFor place error old new
-record_refused place node desc files old new device.Full low w = record {
-  passes = record { name = record_name desc.which node; at = 8; count = _; own = inr (low, inl (inl (desc, node, files, refl, refl, refl))); passes = w.answer };
+pub record_refused : {T : Type 0} (place node : ℕ) (desc : Desc) (files : List (List FileRow)) (old new : DeviceState) (error : DevError) → WritesMember {T = T} desc.which node desc files (Err error) old new → RefusedFor (IsWrite place (record_name desc.which node) 8 (8 + length (member_body desc node files))) place error old new
+record_refused place node desc files old new device.Full w = record {
+  passes = record { name = record_name desc.which node; at = 8; count = _; own = (refl, refl, refl, refl); passes = w.answer };
   kept = alike_use old new w.refused;
 }
-record_refused place node desc files old new _ low w = tt
+record_refused place node desc files old new _ w = tt
 
-gate_below : (gate : MemberGate) → gate_number gate < 2
-gate_below gates.Whole = omega arith
-gate_below gates.Sealed = omega arith
-
-pub gate_refused : {T : Type 0} (place : ℕ) (which : DataId) (node : ℕ) (gate : MemberGate) (up : Bool) (old new : DeviceState) (error : DevError) → place < 32 → SetsGate {T = T} which node gate up (Err error) old new → RefusedFor place error old new
-gate_refused place which node gate up old new device.Full low w = record {
-  passes = record { name = record_name which node; at = gate_number gate; count = 1; own = inr (low, inl (inr (which, node, refl, gate_below gate, refl))); passes = w.answer.1 };
+pub gate_refused : {T : Type 0} (place : ℕ) (which : DataId) (node : ℕ) (gate : MemberGate) (up : Bool) (old new : DeviceState) (error : DevError) → SetsGate {T = T} which node gate up (Err error) old new → RefusedFor (IsWrite place (record_name which node) (gate_number gate) 1) place error old new
+gate_refused place which node gate up old new device.Full w = record {
+  passes = record { name = record_name which node; at = gate_number gate; count = 1; own = (refl, refl, refl, refl); passes = w.answer.1 };
   kept = alike_use old new w.refused;
 }
-gate_refused place which node gate up old new _ low w = tt
+gate_refused place which node gate up old new _ w = tt
 
 -- a file that reads as longer than a place has the place
 pub has_place : (f : File) (o : Option (List ℕ)) (gate : ℕ) → f.now ≡ o → f.len ≡ option_map length f.now → gate < length (bytes_of o) → HasPlace f gate

@@ -15,7 +15,7 @@ use Rattle.site_core.specs.declared.site.Site.{Site}
 use Rattle.site_core.specs.Asking.{program_of, lengthened}
 use Rattle.site_core.specs.Shown.{mends}
 use Rattle.site_core.specs.Cores.{recovered, next_drop_core}
-use Rattle.site_core.specs.Follows.{IsNextCall, IsNextLocal}
+use Rattle.site_core.specs.Steps.{IsNextCall, IsNextLocal}
 use Rattle.site_core.specs.Order.{SeatInOrder, IsInOrder, KeepsOrder}
 use Rattle.site_core.proofs.Lengthened.{still_there}
 use Rattle.site_core.proofs.Serving.{some_same}

@@ -5,6 +5,8 @@ pub mod Telling
 pub mod Numbering
 pub mod Mapped
 pub mod CallCauses
+pub mod Fits
+pub mod Fulls
 pub mod Ranks
 pub mod Gates
 pub mod Best

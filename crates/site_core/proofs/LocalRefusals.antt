@@ -26,7 +26,8 @@ use Rattle.site_core.specs.Cores.{IsSpot}
 use Rattle.site_core.specs.Calls.{Refused, KeptAlike}
 use Rattle.site_core.specs.Causes.{CallCause, told_trouble}
 use Rattle.site_core.specs.Holds.{Leads, IsPending}
-use Rattle.site_core.specs.Follows.{IsNextLocal, Follows, Keeps, TellsBy, IsOfRank, IsRefusedFor}
+use Rattle.site_core.specs.Follows.{Follows, Keeps, Tells, IsOfRank, IsRefusedFor}
+use Rattle.site_core.specs.Steps.{IsNextLocal}
 use Rattle.site_core.proofs.Told.{is_up, led}
 use Rattle.site_core.proofs.LocalSteps.{spot_file, spot_place, hand_rows, hand_opened}
 use Rattle.site_core.proofs.Puts.{few_ranks, few_rows, node_below, place_is}
@@ -65,9 +66,9 @@ module _ (first : Machine) (c : Core) (programs : List (List Step)) (states afte
 module _ {D : Type 0} (state : D → DeviceState) (old new : Site D) (mid : Rack D) (rank : ℕ) (call : Step) (t : Trouble) (r : Refusal) (seat : Seat)
     (bay : new.bay ≡ mid) (told : told_trouble t ≡ Some r) (here : slice_get old.core.ranks rank ≡ Some seat)
     (is : new.history.events ≡ old.history.events ++ event.Local rank (seat.number + 1) call (reply.Refused r) ∷ []) where
-  pub tells_refusal : (T : Type 0) → CallCause {T = T} (states_of state old.bay) (states_of state mid) (Err t) → TellsBy (IsOfRank rank) state old new
-  tells_refusal T why = tells_one (IsOfRank rank) state old new (event.Local rank (seat.number + 1) call (reply.Refused r)) is refl
-      (subst (λ (b : Rack D). IsRefusedFor (states_of state old.bay) (states_of state b) (reply.Refused r)) (sym bay) (refused_for T (states_of state old.bay) (states_of state mid) t r told why))
+  pub tells_refusal : (T : Type 0) (may : ℕ → List ℕ → ℕ → ℕ → Type 0) → CallCause {T = T} may (states_of state old.bay) (states_of state mid) (Err t) → Tells (IsOfRank rank) may state old new
+  tells_refusal T may why = tells_one (IsOfRank rank) may state old new (event.Local rank (seat.number + 1) call (reply.Refused r)) is refl
+      (subst (λ (b : Rack D). IsRefusedFor may (states_of state old.bay) (states_of state b) (reply.Refused r)) (sym bay) (refused_for T may (states_of state old.bay) (states_of state mid) t r told why))
 
   module _ (core : new.core ≡ record old.core { ranks = slice_set old.core.ranks rank (stepped seat) }) (programs : new.programs ≡ old.programs)
       (at : old.core.stage ≡ stage.Serving) (next : IsNextLocal old.programs old.core rank call) (clear : local_verdict_of old.core rank call ≡ None) (may : may_fault_local call (reply.Refused r) ≡ true) where

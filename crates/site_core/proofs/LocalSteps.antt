@@ -45,7 +45,7 @@ use Rattle.site_core.specs.Shown.{Contents, running, setup_of, mends, served}
 use Rattle.site_core.specs.Choosing.{local_verdict_of, rows_at, rows_in, at_hand, hand_in, set_in}
 use Rattle.site_core.specs.Calls.{Same, Written, Tells, TellsAll}
 use Rattle.site_core.specs.Cores.{IsSpot, with_rows, with_open}
-use Rattle.site_core.specs.Follows.{IsNextLocal}
+use Rattle.site_core.specs.Steps.{IsNextLocal}
 use Rattle.site_core.specs.Stored.{cells_of, contents_of, place_of_rank, file_name, FileStands, IsAmong, IsKnown}
 use Rattle.site_core.specs.Holds.{Leads, WorkIs}
 use Rattle.site_core.proofs.Told.{is_up, led, serves}

@@ -27,7 +27,8 @@ use Rattle.site_core.specs.Stored.{Cells, cells_of, contents_of, FilesHold}
 use Rattle.site_core.specs.Calls.{Refused, KeptAlike}
 use Rattle.site_core.specs.Causes.{CallCause, told_trouble, is_told, is_device_fault, cause_of}
 use Rattle.site_core.specs.Holds.{Leads, WorkIs, NoRecordYet, IsPending}
-use Rattle.site_core.specs.Follows.{IsRefusedFor, IsEndedFor, IsWorkersEnd, IsNextLocal}
+use Rattle.site_core.specs.Follows.{IsRefusedFor, IsEndedFor, IsWorkersEnd}
+use Rattle.site_core.specs.Steps.{IsNextLocal}
 use Rattle.site_core.proofs.Told.{is_up, led, leads_up}
 use Rattle.site_core.proofs.Locals.{faults_local}
 use Rattle.site_core.proofs.LocalSteps.{tells_local, same_seat}
@@ -43,21 +44,27 @@ told_faults (error.Fault node count) r e = subst (λ (x : Refusal). is_fault (re
 told_faults (error.Full node used capacity) r e = subst (λ (x : Refusal). is_fault (reply.Refused x) ≡ true) (some_refusal _ r e) refl
 
 -- a refusal that is told of a refused call has its cause
-pub refused_for : (T : Type 0) (old new : ℕ → DeviceState) (t : Trouble) (r : Refusal) → told_trouble t ≡ Some r → CallCause {T = T} old new (Err t) → IsRefusedFor old new (reply.Refused r)
-refused_for T old new error.Memory r e why = absurd (cc e)
-refused_for T old new (error.Fault node count) r e why = subst (λ (x : Refusal). IsRefusedFor old new (reply.Refused x)) (some_refusal _ r e) why
-refused_for T old new (error.Full node used capacity) r e why = subst (λ (x : Refusal). IsRefusedFor old new (reply.Refused x)) (some_refusal _ r e) why
+pub refused_for : (T : Type 0) (may : ℕ → List ℕ → ℕ → ℕ → Type 0) (old new : ℕ → DeviceState) (t : Trouble) (r : Refusal) → told_trouble t ≡ Some r → CallCause {T = T} may old new (Err t) → IsRefusedFor may old new (reply.Refused r)
+refused_for T may old new error.Memory r e why = absurd (cc e)
+refused_for T may old new (error.Fault node count) r e why = subst (λ (x : Refusal). IsRefusedFor may old new (reply.Refused x)) (some_refusal _ r e) why
+refused_for T may old new (error.Full node used capacity) r e why = subst (λ (x : Refusal). IsRefusedFor may old new (reply.Refused x)) (some_refusal _ r e) why
 
 -- so has an end that is told of it
-pub ended_for : (T : Type 0) (old new : ℕ → DeviceState) (t : Trouble) → CallCause {T = T} old new (Err t) → IsEndedFor old new (cause_of t)
-ended_for T old new error.Memory why = tt
-ended_for T old new (error.Fault node count) why = why
-ended_for T old new (error.Full node used capacity) why = why
+pub ended_for : (T : Type 0) (may : ℕ → List ℕ → ℕ → ℕ → Type 0) (old new : ℕ → DeviceState) (t : Trouble) → CallCause {T = T} may old new (Err t) → IsEndedFor may old new (cause_of t)
+ended_for T may old new error.Memory why = tt
+ended_for T may old new (error.Fault node count) why = why
+ended_for T may old new (error.Full node used capacity) why = why
 
 pub ended_by : (t : Trouble) → is_told t ≡ true → IsWorkersEnd (cause_of t)
 ended_by error.Memory e = absurd (cc e)
 ended_by (error.Fault node count) e = tt
 ended_by (error.Full node used capacity) e = tt
+
+-- a fault's cause says nothing of writes
+pub fault_cause : (T : Type 0) (may more : ℕ → List ℕ → ℕ → ℕ → Type 0) (old new : ℕ → DeviceState) (t : Trouble) → is_device_fault t ≡ true → CallCause {T = T} may old new (Err t) → CallCause {T = T} more old new (Err t)
+fault_cause T may more old new error.Memory is why = absurd (cc is)
+fault_cause T may more old new (error.Fault node count) is why = why
+fault_cause T may more old new (error.Full node used capacity) is why = absurd (cc is)
 
 pub fault_is_told : (t : Trouble) → is_device_fault t ≡ true → is_told t ≡ true
 fault_is_told error.Memory e = absurd (cc e)

@@ -11,6 +11,7 @@ use Rattle.node_device.specs.Outcomes.{rest_leaves}
 use Rattle.member_store.specs.Calls.{Drops}
 use Rattle.site_core.specs.Calls.{Refused, KeptAlike, FileDropped}
 use Rattle.site_core.specs.Removals.{Leaving}
+use Rattle.site_core.specs.Writes.{IsNoWrite}
 use Rattle.site_core.proofs.CallCauses.{RefusedFor}
 
 -- a write that was refused
@@ -70,7 +71,7 @@ pub file_dropped : (which : DataId) (node : ℕ) (over : Bool) (before after : O
 file_dropped which node over before after old new w = record { at_most = w.at_most; none_left = w.none_left; goes = w.goes; fewer = w.fewer }
 
 -- no step of a removal finds the device full
-pub drop_refused : (place : ℕ) (which : DataId) (node : ℕ) (before after : Option (List Change)) (old new : DeviceState) (error : DevError) → Drops which node (Err error) before after old new → RefusedFor place error old new
+pub drop_refused : (place : ℕ) (which : DataId) (node : ℕ) (before after : Option (List Change)) (old new : DeviceState) (error : DevError) → Drops which node (Err error) before after old new → RefusedFor IsNoWrite place error old new
 drop_refused place which node before after old new device.Full w = absurd w.answer
 drop_refused place which node before after old new _ w = tt
 

@@ -29,7 +29,8 @@ use Rattle.site_core.specs.Shown.{running, setup_of, mends, served, decided}
 use Rattle.site_core.specs.Choosing.{seals}
 use Rattle.site_core.specs.Stored.{cells_of, contents_of}
 use Rattle.site_core.specs.Holds.{Leads, WorkIs}
-use Rattle.site_core.specs.Follows.{IsNextCall, IsClearRound}
+use Rattle.site_core.specs.Follows.{IsClearRound}
+use Rattle.site_core.specs.Steps.{IsNextCall}
 use Rattle.site_core.proofs.Told.{is_up, led, serves, turns}
 use Rattle.site_core.proofs.Gates.{calls, replies}
 

@@ -35,9 +35,8 @@ use Rattle.site_core.specs.declared.cache.Manifest.{Manifest}
 use Rattle.site_core.specs.declared.core_state.Core.{Core}
 use Rattle.site_core.specs.declared.core_state.Stage.{Stage}
 use Rattle.site_core.specs.declared.core_state.Stage.TheVariants as stage
-use Rattle.site_core.specs.Causes.{IsNumberFile}
 use Rattle.site_core.specs.Calls.{Tells}
-use Rattle.site_core.specs.Numbers.{Way}
+use Rattle.site_core.specs.Numbers.{IsNumberFile, Way}
 use Rattle.site_core.specs.Shown.{Contents, setup_of, kept_of, begun}
 use Rattle.site_core.specs.Stored.{cells_of, contents_of, contents_in, is_named, place_of_rank, file_name, run_number, FilesStand, FileStands, RecordsStand, RecordIs, NoOtherRecords, NoFutureFiles, IsFuture}
 use Rattle.site_core.specs.Holds.{HoldsAt, Leads, IsOneOf, settled_set, IsStoring, IsSoFar}

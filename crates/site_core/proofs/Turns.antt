@@ -25,10 +25,10 @@ use Rattle.site_core.specs.declared.turn.Turn.{Turn}
 use Rattle.site_core.specs.declared.turn.Turn.TheVariants as turn
 use Rattle.site_core.specs.declared.error.SiteError.{SiteError}
 use Rattle.site_core.specs.declared.site.Site.{Site}
-use Rattle.site_core.specs.Follows.{Each, Stays, TellsBy, carried, IsCaused, IsCarried, IsRefusedFor, IsEndedFor, IsOfWorker, Follows, Keeps}
+use Rattle.site_core.specs.Follows.{Each, Stays, Tells, carried, IsCaused, IsCarried, IsRefusedFor, IsEndedFor, IsOfWorker, Follows, Keeps}
 
-pub tells_one : {D : Type 0} (who : Event → Type 0) (state : D → DeviceState) (old new : Site D) (e : Event) → new.history.events ≡ old.history.events ++ e ∷ [] → who e → IsCaused (states_of state old.bay) (states_of state new.bay) (carried old.core) e → TellsBy who state old new
-tells_one who state old new e is own caused = record { told = e ∷ []; few = omega arith; is = is; own = (own, tt); caused = (caused, tt) }
+pub tells_one : {D : Type 0} (who : Event → Type 0) (may : ℕ → List ℕ → ℕ → ℕ → Type 0) (state : D → DeviceState) (old new : Site D) (e : Event) → new.history.events ≡ old.history.events ++ e ∷ [] → who e → IsCaused may (states_of state old.bay) (states_of state new.bay) (carried old.core) e → Tells who may state old new
+tells_one who may state old new e is own caused = record { told = e ∷ []; few = omega arith; is = is; own = (own, tt); caused = (caused, tt) }
 
 -- a turn that moved may have changed all
 pub moved_stays : {D : Type 0} (old new : Site D) (r : Result Turn SiteError) → IfOk r (λ (t : Turn). t ≡ turn.Moved) → IfOk r (λ (t : Turn). Stays t old new)
@@ -36,14 +36,14 @@ moved_stays old new (Ok t) is = subst (λ (x : Turn). Stays x old new) (sym is) 
 moved_stays old new (Err e) is = tt
 
 -- what was told after a call that changed nothing
-pub told_across : {D : Type 0} (who : Event → Type 0) (state : D → DeviceState) (old mid new : Site D) → mid.history.events ≡ old.history.events → carried mid.core ≡ carried old.core → states_of state mid.bay ≡ states_of state old.bay → TellsBy who state mid new → TellsBy who state old new
-told_across who state old mid new events carries same t = record {
+pub told_across : {D : Type 0} (who : Event → Type 0) (may : ℕ → List ℕ → ℕ → ℕ → Type 0) (state : D → DeviceState) (old mid new : Site D) → mid.history.events ≡ old.history.events → carried mid.core ≡ carried old.core → states_of state mid.bay ≡ states_of state old.bay → Tells who may state mid new → Tells who may state old new
+told_across who may state old mid new events carries same t = record {
   told = t.told;
   few = t.few;
   is = t.is ∙ ap (λ (es : List Event). es ++ t.told) events;
   own = t.own;
-  caused = subst (λ (st : ℕ → DeviceState). Each (IsCaused st (states_of state new.bay) (carried old.core)) t.told) same
-      (subst (λ (o : Option Refusal). Each (IsCaused (states_of state mid.bay) (states_of state new.bay) o) t.told) carries t.caused);
+  caused = subst (λ (st : ℕ → DeviceState). Each (IsCaused may st (states_of state new.bay) (carried old.core)) t.told) same
+      (subst (λ (o : Option Refusal). Each (IsCaused may (states_of state mid.bay) (states_of state new.bay) o) t.told) carries t.caused);
 }
 
 -- an answer that is no fault needs no cause
@@ -58,23 +58,23 @@ calm_carried carried (reply.Refused refusal.Limit) e = tt
 calm_carried carried (reply.Refused (refusal.NameTaken which)) e = tt
 calm_carried carried _ e = tt
 
-pub calm_refused : (old new : ℕ → DeviceState) (a : Reply) → is_fault a ≡ false → IsRefusedFor old new a
-calm_refused old new (reply.Refused (refusal.Device node count)) e = absurd (cc e)
-calm_refused old new (reply.Refused (refusal.Full node used capacity)) e = absurd (cc e)
-calm_refused old new (reply.Refused (refusal.Mismatch rank)) e = tt
-calm_refused old new (reply.Refused (refusal.Phase phase)) e = tt
-calm_refused old new (reply.Refused refusal.BadName) e = tt
-calm_refused old new (reply.Refused refusal.NoFile) e = tt
-calm_refused old new (reply.Refused refusal.Limit) e = tt
-calm_refused old new (reply.Refused (refusal.NameTaken which)) e = tt
-calm_refused old new _ e = tt
+pub calm_refused : (may : ℕ → List ℕ → ℕ → ℕ → Type 0) (old new : ℕ → DeviceState) (a : Reply) → is_fault a ≡ false → IsRefusedFor may old new a
+calm_refused may old new (reply.Refused (refusal.Device node count)) e = absurd (cc e)
+calm_refused may old new (reply.Refused (refusal.Full node used capacity)) e = absurd (cc e)
+calm_refused may old new (reply.Refused (refusal.Mismatch rank)) e = tt
+calm_refused may old new (reply.Refused (refusal.Phase phase)) e = tt
+calm_refused may old new (reply.Refused refusal.BadName) e = tt
+calm_refused may old new (reply.Refused refusal.NoFile) e = tt
+calm_refused may old new (reply.Refused refusal.Limit) e = tt
+calm_refused may old new (reply.Refused (refusal.NameTaken which)) e = tt
+calm_refused may old new _ e = tt
 
 -- ## The end of a run that a refused call brought
 
 module _ {D : Type 0} (state : D → DeviceState) (old new : Site D) (t : Trouble) (is : new.history.events ≡ old.history.events ++ event.Stop (cause_of t) ∷ []) where
-  pub tells_end : (T : Type 0) (bay : Rack D) → new.bay ≡ bay → is_told t ≡ true → CallCause {T = T} (states_of state old.bay) (states_of state bay) (Err t) → TellsBy IsOfWorker state old new
-  tells_end T bay same told why = tells_one IsOfWorker state old new (event.Stop (cause_of t)) is (ended_by t told)
-      (subst (λ (b : Rack D). IsEndedFor (states_of state old.bay) (states_of state b) (cause_of t)) (sym same) (ended_for T (states_of state old.bay) (states_of state bay) t why))
+  pub tells_end : (T : Type 0) (may : ℕ → List ℕ → ℕ → ℕ → Type 0) (bay : Rack D) → new.bay ≡ bay → is_told t ≡ true → CallCause {T = T} may (states_of state old.bay) (states_of state bay) (Err t) → Tells IsOfWorker may state old new
+  tells_end T may bay same told why = tells_one IsOfWorker may state old new (event.Stop (cause_of t)) is (ended_by t told)
+      (subst (λ (b : Rack D). IsEndedFor may (states_of state old.bay) (states_of state b) (cause_of t)) (sym same) (ended_for T may (states_of state old.bay) (states_of state bay) t why))
 
   module _ (core : new.core ≡ cut_core old.core) (programs : new.programs ≡ old.programs) where
     pub leads_so : (first : Machine) → Leads first (cut_core old.core) old.programs (states_of state new.bay) new.history.events → Follows state first new

@@ -1,5 +1,5 @@
 -- A site's history is a run of the machine to a state for which its memory and its devices stand.
-use Rattle.std.specs.Prelude.{◌≡◌, ◌⊎◌, ◌≤◌, ◌<◌, ◌+◌, ◌^◌, ℕ, true, false, List, [], ◌∷◌, ◌++◌, length, map, slice_get, slice_set, Option, Some, None}
+use Rattle.std.specs.Prelude.{◌≡◌, ◌⊎◌, ◌≤◌, ◌<◌, ◌+◌, ℕ, true, false, List, [], ◌∷◌, ◌++◌, length, map, slice_get, slice_set, Option, Some, None}
 use Rattle.scr_base.specs.declared.actor.Actor.{Actor}
 use Rattle.scr_base.specs.declared.actor.Actor.TheVariants.{Rank, Encoder}
 use Rattle.scr_base.specs.declared.answers.Phase.{Phase}
@@ -7,10 +7,10 @@ use Rattle.scr_base.specs.declared.answers.Phase.TheVariants.{Output}
 use Rattle.scr_base.specs.declared.answers.Reply.{Reply}
 use Rattle.scr_base.specs.declared.content.Step.{Step}
 use Rattle.scr_base.specs.declared.shape.DataId.{DataId}
-use Rattle.node_device.specs.DeviceState.{DeviceState}
+use Rattle.node_device.specs.DeviceState.{DeviceState, used_of}
 use Rattle.node_device.specs.Rack.{states_of}
 use Rattle.ckpt_model.specs.Machine.{Machine, Setup}
-use Rattle.ckpt_model.specs.Legal.{IsRunOf, is_step_of}
+use Rattle.ckpt_model.specs.Legal.{IsRunOf}
 use Rattle.ckpt_model.specs.Legal.Place.{AtEnd}
 use Rattle.ckpt_model.specs.Runs.{RunsTo, StepsTo}
 use Rattle.ckpt_model.specs.declared.event.Event.{Event}
@@ -18,11 +18,10 @@ use Rattle.ckpt_model.specs.declared.event.Event.TheVariants as event
 use Rattle.ckpt_model.specs.declared.event.Kind.{Kind}
 use Rattle.ckpt_model.specs.declared.event.Kind.TheVariants as kinds
 use Rattle.round_core.specs.declared.seat.Seat.{Seat}
-use Rattle.scr_base.specs.Calls.{is_local, is_end}
 use Rattle.scr_base.specs.declared.answers.Refusal.{Refusal}
 use Rattle.scr_base.specs.declared.answers.Reply.TheVariants as replies
 use Rattle.ckpt_model.specs.Answers.{is_fault}
-use Rattle.round_core.specs.Seats.{is_complete, first_call, owed, is_free, next_number, stepped}
+use Rattle.round_core.specs.Seats.{is_complete, first_call, owed, stepped}
 use Rattle.site_core.specs.declared.site.Site.{Site}
 use Rattle.site_core.specs.declared.core_state.Core.{Core}
 use Rattle.site_core.specs.declared.cache.Manifest.{Manifest}
@@ -36,6 +35,7 @@ use Rattle.site_core.specs.declared.turn.Turn.{Turn}
 use Rattle.site_core.specs.declared.turn.Turn.TheVariants as turn
 use Rattle.site_core.specs.Waiting.{is_over}
 use Rattle.site_core.specs.Causes.{IsFault, IsFull, IsCalm}
+use Rattle.site_core.specs.Writes.{IsNoWrite, MakesWrite, MayWrite, PassesOn}
 use Rattle.site_core.specs.Shown.{Contents, running, setup_of, served, decided}
 use Rattle.site_core.specs.Choosing.{verdict_of}
 use Rattle.site_core.specs.Calls.{TellsAll}
@@ -115,11 +115,11 @@ abbrev pub IsOf : Actor → Event → Type 0
 IsOf (Rank rank) e = IsOfRank rank e
 IsOf _ e = IsOfWorker e
 
--- a refusal by a device has its cause in this move
-abbrev pub IsRefusedFor : (ℕ → DeviceState) → (ℕ → DeviceState) → Reply → Type 0
-IsRefusedFor old new (replies.Refused (refusal.Device node count)) = IsFault old new node count
-IsRefusedFor old new (replies.Refused (refusal.Full node used capacity)) = IsFull old new node used capacity
-IsRefusedFor old new _ = Unit {0}
+-- a refusal by a device has its cause in this move, which may make these writes
+abbrev pub IsRefusedFor : (ℕ → List ℕ → ℕ → ℕ → Type 0) → (ℕ → DeviceState) → (ℕ → DeviceState) → Reply → Type 0
+IsRefusedFor may old new (replies.Refused (refusal.Device node count)) = IsFault old new node count
+IsRefusedFor may old new (replies.Refused (refusal.Full node used capacity)) = IsFull may old new node used capacity
+IsRefusedFor may old new _ = Unit {0}
 
 -- a refusal by a device is the one that the round carries
 abbrev pub IsCarried : Option Refusal → Reply → Type 0
@@ -128,17 +128,17 @@ IsCarried carried (replies.Refused (refusal.Full node used capacity)) = carried 
 IsCarried carried _ = Unit {0}
 
 -- an end by a device has its cause in this move
-abbrev pub IsEndedFor : (ℕ → DeviceState) → (ℕ → DeviceState) → StopCause → Type 0
-IsEndedFor old new (stops.Device node count) = IsFault old new node count
-IsEndedFor old new (stops.Full node used capacity) = IsFull old new node used capacity
-IsEndedFor old new _ = Unit {0}
+abbrev pub IsEndedFor : (ℕ → List ℕ → ℕ → ℕ → Type 0) → (ℕ → DeviceState) → (ℕ → DeviceState) → StopCause → Type 0
+IsEndedFor may old new (stops.Device node count) = IsFault old new node count
+IsEndedFor may old new (stops.Full node used capacity) = IsFull may old new node used capacity
+IsEndedFor may old new _ = Unit {0}
 
 -- what the event says of devices has its cause
-abbrev pub IsCaused : (ℕ → DeviceState) → (ℕ → DeviceState) → Option Refusal → Event → Type 0
-IsCaused old new carried (event.Local rank number call answer) = IsRefusedFor old new answer
-IsCaused old new carried (event.Decided kind answer) = IsCarried carried answer
-IsCaused old new carried (event.Stop cause) = IsEndedFor old new cause
-IsCaused old new carried _ = Unit {0}
+abbrev pub IsCaused : (ℕ → List ℕ → ℕ → ℕ → Type 0) → (ℕ → DeviceState) → (ℕ → DeviceState) → Option Refusal → Event → Type 0
+IsCaused may old new carried (event.Local rank number call answer) = IsRefusedFor may old new answer
+IsCaused may old new carried (event.Decided kind answer) = IsCarried carried answer
+IsCaused may old new carried (event.Stop cause) = IsEndedFor may old new cause
+IsCaused may old new carried _ = Unit {0}
 
 -- the refusal that a round carries while its dataset is being removed
 abbrev pub carried_at : Stage → Option Refusal → Option Refusal
@@ -149,13 +149,21 @@ carried_at _ refusal = None
 abbrev pub carried : Core → Option Refusal
 carried c = carried_at c.stage c.refusal
 
--- at most one event was told, one that this actor may tell, and it has its cause
-pub record TellsBy {D : Type 0} (who : Event → Type 0) (state : D → DeviceState) (old new : Site D) : Type 0 where
+-- at most one event was told, one of these, and it has its cause in a move that may make these writes
+pub record Tells {D : Type 0} (who : Event → Type 0) (may : ℕ → List ℕ → ℕ → ℕ → Type 0) (state : D → DeviceState) (old new : Site D) : Type 0 where
   pub told : List Event
   pub few : length told ≤ 1
   pub is : new.history.events ≡ old.history.events ++ told
   pub own : Each who told
-  pub caused : Each (IsCaused (states_of state old.bay) (states_of state new.bay) (carried old.core)) told
+  pub caused : Each (IsCaused may (states_of state old.bay) (states_of state new.bay) (carried old.core)) told
+
+-- what this actor may tell, for its own writes
+abbrev pub TellsBy : {D : Type 0} → Actor → (D → DeviceState) → Site D → Site D → Type 0
+TellsBy who state old new = Tells (IsOf who) (MayWrite who old.programs old.core) state old new
+
+-- what the turn of any rank may tell of its round, which writes nothing
+abbrev pub TellsRound : {D : Type 0} → (D → DeviceState) → Site D → Site D → Type 0
+TellsRound state old new = Tells IsOfRound IsNoWrite state old new
 
 -- ## What becomes of faults
 
@@ -189,7 +197,7 @@ pub record TakesUp {D : Type 0} (state : D → DeviceState) (old new : Site D) :
   pub none : carried old.core ≡ None
   pub now : carried new.core ≡ Some refusal
   pub of_device : is_fault (replies.Refused refusal) ≡ true
-  pub cause : IsRefusedFor (states_of state old.bay) (states_of state new.bay) (replies.Refused refusal)
+  pub cause : IsRefusedFor (MayWrite Encoder old.programs old.core) (states_of state old.bay) (states_of state new.bay) (replies.Refused refusal)
 
 -- each change of a count of faults is told or carried
 abbrev pub TellsOrCarries : {D : Type 0} → (D → DeviceState) → Site D → Site D → Type 0
@@ -199,6 +207,28 @@ TellsOrCarries state old new = TellsFaults state old new ⊎ TakesUp state old n
 abbrev pub AccountsBy : {D : Type 0} → Actor → (D → DeviceState) → Site D → Site D → Type 0
 AccountsBy Encoder state old new = TellsOrCarries state old new
 AccountsBy _ state old new = TellsFaults state old new
+
+-- ## What becomes of full devices
+
+-- the event tells that the device is full
+abbrev pub IsOfFull : ℕ → ℕ → ℕ → Event → Type 0
+IsOfFull node used capacity (event.Local rank number call answer) = answer ≡ replies.Refused (refusal.Full node used capacity)
+IsOfFull node used capacity (event.Stop cause) = cause ≡ stops.Full node used capacity
+IsOfFull node used capacity _ = ⊥
+
+-- the one event of the turn is such a one, or the round comes to carry the refusal
+abbrev pub TellsOf : {D : Type 0} → Site D → Site D → (Event → Type 0) → Refusal → Type 0
+TellsOf old new is refusal = ((told : Event) × (new.history.events ≡ old.history.events ++ told ∷ []) × is told) ⊎ ((carried old.core ≡ None) × (carried new.core ≡ Some refusal))
+
+-- Where a write that the turn makes would pass its device's capacity, the turn tells that or the round comes to carry it; or so it
+-- is with a fault, which comes first.
+abbrev pub TellsEachFull : {D : Type 0} → Actor → (D → DeviceState) → Site D → Site D → Type 0
+TellsEachFull who state old new =
+    (place at count : ℕ) (name : List ℕ) → MakesWrite who old.programs old.core place name at count → PassesOn (states_of state old.bay) place name at count
+    → let used = used_of (states_of state old.bay place) in
+    let capacity = (states_of state old.bay place).capacity in
+    TellsOf old new (IsOfFull place used capacity) (refusal.Full place used capacity)
+    ⊎ ((node : ℕ) × (faults : ℕ) × TellsOf old new (IsOfFault node faults) (refusal.Device node faults))
 
 -- a turn that didn't move left all as it was
 abbrev pub Stays : {D : Type 0} → Turn → Site D → Site D → Type 0
@@ -283,32 +313,6 @@ pub record IsRefusedRound (c : Core) (call : Step) (refusal : Refusal) : Type 0 
   pub first : first_call c.ranks ≡ Some call
   pub verdict : verdict_of c call ≡ Some refusal
   pub no_fault : is_fault (replies.Refused refusal) ≡ false
-
--- a rank that may take its next step
-pub record IsFreeSeat (c : Core) (rank : ℕ) : Type 0 where
-  pub seat : Seat
-  pub is : slice_get c.ranks rank ≡ Some seat
-  pub free : is_free seat.doing ≡ true
-
--- the step is what a free rank calls next
-pub record IsNextCall (programs : List (List Step)) (c : Core) (rank : ℕ) (call : Step) : Type 0 where
-  pub seat : Seat
-  pub is : slice_get c.ranks rank ≡ Some seat
-  pub free : is_free seat.doing ≡ true
-  pub small : seat.number + 1 < 2 ^ 32
-  pub collective : is_local call ≡ false
-  pub again : seat.ended ≡ true → is_end call ≡ true
-  pub of_program : is_step_of programs rank (next_number seat) call
-
--- the step of its own is what a free rank takes next
-pub record IsNextLocal (programs : List (List Step)) (c : Core) (rank : ℕ) (call : Step) : Type 0 where
-  pub seat : Seat
-  pub is : slice_get c.ranks rank ≡ Some seat
-  pub free : is_free seat.doing ≡ true
-  pub goes : seat.ended ≡ false
-  pub small : seat.number + 1 < 2 ^ 32
-  pub local : is_local call ≡ true
-  pub of_program : is_step_of programs rank (seat.number + 1) call
 
 -- a rank's step may be told so, with no file changed: where the site stands for a state, that is a step of the machine
 abbrev pub MayTell : {D : Type 0} → (D → DeviceState) → Site D → ℕ → Step → Reply → Type 0

@@ -18,11 +18,11 @@ use Rattle.ckpt_model.specs.Dataset.{Dataset}
 use Rattle.ckpt_model.specs.declared.event.Event.TheVariants as event
 use Rattle.ckpt_model.specs.declared.event.StopCause.{StopCause}
 use Rattle.ckpt_model.specs.declared.event.StopCause.TheVariants as stops
+use Rattle.site_core.specs.Numbers.{IsNumberFile}
 use Rattle.site_core.specs.declared.core_state.Drop.{Drop}
 use Rattle.site_core.specs.declared.core_state.Drop.TheVariants as drop
 use Rattle.member_store.specs.Calls.{IsDropStage}
 use Rattle.member_store.specs.Names.{record_name, IsPlace, IsNameOf}
-use Rattle.site_core.specs.Causes.{IsNumberFile}
 use Rattle.ckpt_model.specs.Machine.{Machine, Setup, Stage as Place}
 use Rattle.ckpt_model.specs.Legal.{IsRunOf, AreOfPrograms, begins_run, is_stop}
 use Rattle.ckpt_model.specs.Legal.Place.{AtEnd}

@@ -10,6 +10,8 @@ pub mod Stored
 pub mod Holds
 pub mod Calls
 pub mod Causes
+pub mod Steps
+pub mod Writes
 pub mod Follows
 pub mod Asking
 pub mod Ahead

@@ -1,5 +1,5 @@
 -- A run's number on its way to the prefix.
-use Rattle.std.specs.Prelude.{◌≡◌, ◌≤◌, ℕ, List, [], Option, None, codes, length, Result, IfOk}
+use Rattle.std.specs.Prelude.{◌≡◌, ◌⊎◌, ◌≤◌, ℕ, List, [], Option, None, codes, length, Result, IfOk}
 use Rattle.scr_base.specs.declared.change.Change.{Change}
 use Rattle.node_device.specs.DeviceState.{DeviceState, IsUnchanged}
 use Rattle.node_device.specs.Answers.{HasDeviceCause, NamesAnswers}
@@ -7,9 +7,13 @@ use Rattle.node_device.specs.declared.device.DevError.{DevError}
 use Rattle.halt_file.specs.Conditions.{conditions}
 use Rattle.halt_file.specs.Stores.{halt_now}
 use Rattle.halt_file.specs.declared.halt.Halt.{Halt}
-use Rattle.gated_record.specs.Pair.{pair_now}
+use Rattle.gated_record.specs.Pair.{copy_name, pair_now}
 use Rattle.gated_record.specs.PairStages.{IsStageOf}
 use Rattle.gated_record.specs.declared.pair.PairValue.{PairValue}
+
+-- a copy of the run's number
+abbrev pub IsNumberFile : List ℕ → Type 0
+IsNumberFile name = (name ≡ copy_name (codes "run") 0) ⊎ (name ≡ copy_name (codes "run") 1)
 
 -- the value that is to stand, and the changes that are left, where they are known
 pub record Way : Type 0 where

@@ -7,7 +7,9 @@ ghost use Rattle.round_core.specs.Seats.{next_number, is_missing};
 ghost use Rattle.site_core.specs.Waiting.{changes_left, rank_turn, serving_turn, round_turn, free_turn};
 ghost use Rattle.site_core.specs.Ahead.{Lowers};
 ghost use Rattle.site_core.specs.Order.{KeepsOrder};
-ghost use Rattle.site_core.specs.Follows.{Keeps, TellsBy, IsOfRank, IsOfRound, IsSameRun, Stays, IsFreeSeat, IsNextCall, TellsFaults, KeepsCarried};
+ghost use Rattle.site_core.specs.Follows.{Keeps, TellsBy, TellsRound, TellsEachFull, IsSameRun, Stays, TellsFaults, KeepsCarried};
+ghost use Rattle.scr_base.specs.declared.actor.Actor.TheVariants as actor;
+ghost use Rattle.site_core.specs.Steps.{IsFreeSeat, IsNextCall};
 ghost use Rattle.site_core.specs.Causes.{IsCalm};
 
 use crate::core_state::{Stage, Work};
@@ -27,7 +29,8 @@ impl<D: Device> Site<D> {
         ensures run { OnOk result (Keeps D.state self.old self.new) }
         ensures lowers { IfOk result (λ turn. Lowers turn self.old self.new) }
         ensures order { OnOk result (KeepsOrder self.old self.new) }
-        ensures told { OnOk result (TellsBy (IsOfRank rank) D.state self.old self.new) }
+        ensures told { OnOk result (TellsBy (actor.Rank rank) D.state self.old self.new) }
+        ensures full { OnOk result (TellsEachFull (actor.Rank rank) D.state self.old self.new) }
         ensures refused { OnErr result (self.new.history.events ≡ self.old.history.events) }
         ensures calm { OnErr result (IsCalm (states_of D.state self.old.bay) (states_of D.state self.new.bay)) }
         ensures accounted { OnOk result (TellsFaults D.state self.old self.new) }
@@ -60,7 +63,8 @@ impl<D: Device> Site<D> {
         ensures run { OnOk result (Keeps D.state self.old self.new) }
         ensures lowers { IfOk result (λ turn. Lowers turn self.old self.new) }
         ensures order { OnOk result (KeepsOrder self.old self.new) }
-        ensures told { OnOk result (TellsBy (IsOfRank rank) D.state self.old self.new) }
+        ensures told { OnOk result (TellsBy (actor.Rank rank) D.state self.old self.new) }
+        ensures full { OnOk result (TellsEachFull (actor.Rank rank) D.state self.old self.new) }
         ensures refused { OnErr result (self.new.history.events ≡ self.old.history.events) }
         ensures calm { OnErr result (IsCalm (states_of D.state self.old.bay) (states_of D.state self.new.bay)) }
         ensures accounted { OnOk result (TellsFaults D.state self.old self.new) }
@@ -84,7 +88,7 @@ impl<D: Device> Site<D> {
         ensures run { OnOk result (Keeps D.state self.old self.new) }
         ensures lowers { IfOk result (λ turn. Lowers turn self.old self.new) }
         ensures order { OnOk result (KeepsOrder self.old self.new) }
-        ensures told { OnOk result (TellsBy IsOfRound D.state self.old self.new) }
+        ensures told { OnOk result (TellsRound D.state self.old self.new) }
         ensures refused { OnErr result (self.new.history.events ≡ self.old.history.events) }
         ensures calm { OnErr result (IsCalm (states_of D.state self.old.bay) (states_of D.state self.new.bay)) }
         ensures accounted { OnOk result (TellsFaults D.state self.old self.new) }
@@ -106,7 +110,7 @@ impl<D: Device> Site<D> {
         ensures run { OnOk result (Keeps D.state self.old self.new) }
         ensures lowers { IfOk result (λ turn. Lowers turn self.old self.new) }
         ensures order { OnOk result (KeepsOrder self.old self.new) }
-        ensures told { OnOk result (TellsBy (IsOfRank rank) D.state self.old self.new) }
+        ensures told { OnOk result (TellsBy (actor.Rank rank) D.state self.old self.new) }
         ensures refused { OnErr result (self.new.history.events ≡ self.old.history.events) }
         ensures calm { OnErr result (IsCalm (states_of D.state self.old.bay) (states_of D.state self.new.bay)) }
         ensures accounted { OnOk result (TellsFaults D.state self.old self.new) }
@@ -137,7 +141,8 @@ impl<D: Device> Site<D> {
         ensures run { OnOk result (Keeps D.state self.old self.new) }
         ensures lowers { IfOk result (λ turn. Lowers turn self.old self.new) }
         ensures order { OnOk result (KeepsOrder self.old self.new) }
-        ensures told { OnOk result (TellsBy (IsOfRank rank) D.state self.old self.new) }
+        ensures told { OnOk result (TellsBy (actor.Rank rank) D.state self.old self.new) }
+        ensures full { OnOk result (TellsEachFull (actor.Rank rank) D.state self.old self.new) }
         ensures refused { OnErr result (self.new.history.events ≡ self.old.history.events) }
         ensures calm { OnErr result (IsCalm (states_of D.state self.old.bay) (states_of D.state self.new.bay)) }
         ensures accounted { OnOk result (TellsFaults D.state self.old self.new) }
@@ -172,7 +177,7 @@ impl<D: Device> Site<D> {
         ensures run { OnOk result (Keeps D.state self.old self.new) }
         ensures lowers { IfOk result (λ turn. Lowers turn self.old self.new) }
         ensures order { OnOk result (KeepsOrder self.old self.new) }
-        ensures told { OnOk result (TellsBy (IsOfRank rank) D.state self.old self.new) }
+        ensures told { OnOk result (TellsBy (actor.Rank rank) D.state self.old self.new) }
         ensures refused { OnErr result (self.new.history.events ≡ self.old.history.events) }
         ensures calm { OnErr result (IsCalm (states_of D.state self.old.bay) (states_of D.state self.new.bay)) }
         ensures accounted { OnOk result (TellsFaults D.state self.old self.new) }
@@ -199,7 +204,7 @@ impl<D: Device> Site<D> {
         ensures run { OnOk result (Keeps D.state self.old self.new) }
         ensures lowers { IfOk result (λ turn. Lowers turn self.old self.new) }
         ensures order { OnOk result (KeepsOrder self.old self.new) }
-        ensures told { OnOk result (TellsBy (IsOfRank rank) D.state self.old self.new) }
+        ensures told { OnOk result (TellsBy (actor.Rank rank) D.state self.old self.new) }
         ensures refused { OnErr result (self.new.history.events ≡ self.old.history.events) }
         ensures calm { OnErr result (IsCalm (states_of D.state self.old.bay) (states_of D.state self.new.bay)) }
         ensures accounted { OnOk result (TellsFaults D.state self.old self.new) }

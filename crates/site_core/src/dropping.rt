@@ -4,7 +4,8 @@ ghost use Rattle.site_core.specs.Choosing.{is_to_drop};
 ghost use Rattle.site_core.specs.Waiting.{evictor_turn};
 ghost use Rattle.site_core.specs.Ahead.{Lowers};
 ghost use Rattle.site_core.specs.Order.{KeepsOrder};
-ghost use Rattle.site_core.specs.Follows.{Keeps, TellsBy, IsOfWorker, IsOfRound, IsSameRun, Stays, TellsFaults, KeepsCarried};
+ghost use Rattle.site_core.specs.Follows.{Keeps, TellsBy, TellsRound, IsSameRun, Stays, TellsFaults, KeepsCarried};
+ghost use Rattle.scr_base.specs.declared.actor.Actor.TheVariants as actor;
 ghost use Rattle.node_device.specs.Rack.{states_of};
 ghost use Rattle.site_core.specs.Causes.{IsCalm};
 
@@ -23,7 +24,7 @@ impl<D: Device> Site<D> {
         ensures run { OnOk result (Keeps D.state self.old self.new) }
         ensures lowers { IfOk result (λ turn. Lowers turn self.old self.new) }
         ensures order { OnOk result (KeepsOrder self.old self.new) }
-        ensures told { OnOk result (TellsBy IsOfWorker D.state self.old self.new) }
+        ensures told { OnOk result (TellsBy actor.Evictor D.state self.old self.new) }
         ensures refused { OnErr result (self.new.history.events ≡ self.old.history.events) }
         ensures calm { OnErr result (IsCalm (states_of D.state self.old.bay) (states_of D.state self.new.bay)) }
         ensures accounted { OnOk result (TellsFaults D.state self.old self.new) }
@@ -51,7 +52,7 @@ impl<D: Device> Site<D> {
         ensures run { OnOk result (Keeps D.state self.old self.new) }
         ensures lowers { IfOk result (λ turn. Lowers turn self.old self.new) }
         ensures order { OnOk result (KeepsOrder self.old self.new) }
-        ensures told { OnOk result (TellsBy IsOfWorker D.state self.old self.new) }
+        ensures told { OnOk result (TellsBy actor.Evictor D.state self.old self.new) }
         ensures refused { OnErr result (self.new.history.events ≡ self.old.history.events) }
         ensures calm { OnErr result (IsCalm (states_of D.state self.old.bay) (states_of D.state self.new.bay)) }
         ensures accounted { OnOk result (TellsFaults D.state self.old self.new) }
@@ -73,7 +74,7 @@ impl<D: Device> Site<D> {
         ensures run { OnOk result (Keeps D.state self.old self.new) }
         ensures lowers { IfOk result (λ turn. Lowers turn self.old self.new) }
         ensures order { OnOk result (KeepsOrder self.old self.new) }
-        ensures told { OnOk result (TellsBy IsOfWorker D.state self.old self.new) }
+        ensures told { OnOk result (TellsBy actor.Evictor D.state self.old self.new) }
         ensures refused { OnErr result (self.new.history.events ≡ self.old.history.events) }
         ensures calm { OnErr result (IsCalm (states_of D.state self.old.bay) (states_of D.state self.new.bay)) }
         ensures accounted { OnOk result (TellsFaults D.state self.old self.new) }
@@ -94,7 +95,7 @@ impl<D: Device> Site<D> {
         ensures run { OnOk result (Keeps D.state self.old self.new) }
         ensures lowers { IfOk result (λ turn. Lowers turn self.old self.new) }
         ensures order { OnOk result (KeepsOrder self.old self.new) }
-        ensures told { OnOk result (TellsBy IsOfWorker D.state self.old self.new) }
+        ensures told { OnOk result (TellsBy actor.Evictor D.state self.old self.new) }
         ensures refused { OnErr result (self.new.history.events ≡ self.old.history.events) }
         ensures calm { OnErr result (IsCalm (states_of D.state self.old.bay) (states_of D.state self.new.bay)) }
         ensures accounted { OnOk result (TellsFaults D.state self.old self.new) }
@@ -126,7 +127,7 @@ impl<D: Device> Site<D> {
         ensures run { OnOk result (Keeps D.state self.old self.new) }
         ensures lowers { IfOk result (λ turn. Lowers turn self.old self.new) }
         ensures order { OnOk result (KeepsOrder self.old self.new) }
-        ensures told { OnOk result (TellsBy IsOfWorker D.state self.old self.new) }
+        ensures told { OnOk result (TellsBy actor.Evictor D.state self.old self.new) }
         ensures refused { OnErr result (self.new.history.events ≡ self.old.history.events) }
         ensures calm { OnErr result (IsCalm (states_of D.state self.old.bay) (states_of D.state self.new.bay)) }
         ensures accounted { OnOk result (TellsFaults D.state self.old self.new) }
@@ -154,7 +155,7 @@ impl<D: Device> Site<D> {
         ensures run { OnOk result (Keeps D.state self.old self.new) }
         ensures lowers { IfOk result (λ turn. Lowers turn self.old self.new) }
         ensures order { OnOk result (KeepsOrder self.old self.new) }
-        ensures told { OnOk result (TellsBy IsOfRound D.state self.old self.new) }
+        ensures told { OnOk result (TellsRound D.state self.old self.new) }
         ensures refused { OnErr result (self.new.history.events ≡ self.old.history.events) }
         ensures calm { OnErr result (IsCalm (states_of D.state self.old.bay) (states_of D.state self.new.bay)) }
         ensures accounted { OnOk result (TellsFaults D.state self.old self.new) }

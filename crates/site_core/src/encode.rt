@@ -9,7 +9,8 @@ ghost use Rattle.site_core.specs.Waiting.{encoder_turn};
 ghost use Rattle.site_core.specs.Causes.{told_trouble, IsCalm};
 ghost use Rattle.site_core.specs.Ahead.{Lowers, IsToRecord, removal_ahead, stage_ahead};
 ghost use Rattle.site_core.specs.Order.{KeepsOrder};
-ghost use Rattle.site_core.specs.Follows.{Keeps, TellsBy, IsOfWorker, IsSameRun, Stays, IsSavingAt, TellsFaults, TellsOrCarries, carried};
+ghost use Rattle.scr_base.specs.declared.actor.Actor.TheVariants as actor;
+ghost use Rattle.site_core.specs.Follows.{Keeps, TellsBy, TellsEachFull, IsSameRun, Stays, IsSavingAt, TellsFaults, TellsOrCarries, carried};
 
 use crate::core_state::{Stage, Work};
 use crate::error::{SiteError, Trouble};
@@ -27,7 +28,8 @@ impl<D: Device> Site<D> {
         ensures run { OnOk result (Keeps D.state self.old self.new) }
         ensures lowers { IfOk result (λ turn. Lowers turn self.old self.new) }
         ensures order { OnOk result (KeepsOrder self.old self.new) }
-        ensures told { OnOk result (TellsBy IsOfWorker D.state self.old self.new) }
+        ensures told { OnOk result (TellsBy actor.Encoder D.state self.old self.new) }
+        ensures full { OnOk result (TellsEachFull actor.Encoder D.state self.old self.new) }
         ensures refused { OnErr result (self.new.history.events ≡ self.old.history.events) }
         ensures calm { OnErr result (IsCalm (states_of D.state self.old.bay) (states_of D.state self.new.bay)) }
         ensures accounted { OnOk result (TellsOrCarries D.state self.old self.new) }
@@ -54,7 +56,8 @@ impl<D: Device> Site<D> {
         ensures run { OnOk result (Keeps D.state self.old self.new) }
         ensures lowers { IfOk result (λ turn. Lowers turn self.old self.new) }
         ensures order { OnOk result (KeepsOrder self.old self.new) }
-        ensures told { OnOk result (TellsBy IsOfWorker D.state self.old self.new) }
+        ensures told { OnOk result (TellsBy actor.Encoder D.state self.old self.new) }
+        ensures full { OnOk result (TellsEachFull actor.Encoder D.state self.old self.new) }
         ensures refused { OnErr result (self.new.history.events ≡ self.old.history.events) }
         ensures calm { OnErr result (IsCalm (states_of D.state self.old.bay) (states_of D.state self.new.bay)) }
         ensures accounted { OnOk result (TellsOrCarries D.state self.old self.new) }
@@ -75,7 +78,8 @@ impl<D: Device> Site<D> {
         ensures run { OnOk result (Keeps D.state self.old self.new) }
         ensures lowers { IfOk result (λ turn. Lowers turn self.old self.new) }
         ensures order { OnOk result (KeepsOrder self.old self.new) }
-        ensures told { OnOk result (TellsBy IsOfWorker D.state self.old self.new) }
+        ensures told { OnOk result (TellsBy actor.Encoder D.state self.old self.new) }
+        ensures full { OnOk result (TellsEachFull actor.Encoder D.state self.old self.new) }
         ensures refused { OnErr result (self.new.history.events ≡ self.old.history.events) }
         ensures calm { OnErr result (IsCalm (states_of D.state self.old.bay) (states_of D.state self.new.bay)) }
         ensures accounted { OnOk result (TellsOrCarries D.state self.old self.new) }
@@ -97,11 +101,13 @@ impl<D: Device> Site<D> {
     fn write_record(&mut self, node: u8) -> Result<Turn, SiteError>
         requires saving { IsSavingAt D.state self.old work.Record node }
         requires stage { IsToRecord self.old.core.stage node }
+        requires asked { self.old.core.stage ≡ Stage.Serving → is_to_save self.old.core ≡ true }
         requires free { carried self.old.core ≡ None }
         ensures run { OnOk result (Keeps D.state self.old self.new) }
         ensures lowers { IfOk result (λ turn. Lowers turn self.old self.new) }
         ensures order { OnOk result (KeepsOrder self.old self.new) }
-        ensures told { OnOk result (TellsBy IsOfWorker D.state self.old self.new) }
+        ensures told { OnOk result (TellsBy actor.Encoder D.state self.old self.new) }
+        ensures full { OnOk result (TellsEachFull actor.Encoder D.state self.old self.new) }
         ensures refused { OnErr result (self.new.history.events ≡ self.old.history.events) }
         ensures calm { OnErr result (IsCalm (states_of D.state self.old.bay) (states_of D.state self.new.bay)) }
         ensures accounted { OnOk result (TellsOrCarries D.state self.old self.new) }
@@ -139,7 +145,7 @@ impl<D: Device> Site<D> {
         ensures run { OnOk result (Keeps D.state self.old self.new) }
         ensures lowers { IfOk result (λ turn. Lowers turn self.old self.new) }
         ensures order { OnOk result (KeepsOrder self.old self.new) }
-        ensures told { OnOk result (TellsBy IsOfWorker D.state self.old self.new) }
+        ensures told { OnOk result (TellsBy actor.Encoder D.state self.old self.new) }
         ensures refused { OnErr result (self.new.history.events ≡ self.old.history.events) }
         ensures calm { OnErr result (IsCalm (states_of D.state self.old.bay) (states_of D.state self.new.bay)) }
         ensures accounted { OnOk result (TellsOrCarries D.state self.old self.new) }
@@ -169,7 +175,8 @@ impl<D: Device> Site<D> {
         ensures run { OnOk result (Keeps D.state self.old self.new) }
         ensures lowers { IfOk result (λ turn. Lowers turn self.old self.new) }
         ensures order { OnOk result (KeepsOrder self.old self.new) }
-        ensures told { OnOk result (TellsBy IsOfWorker D.state self.old self.new) }
+        ensures told { OnOk result (TellsBy actor.Encoder D.state self.old self.new) }
+        ensures full { OnOk result (TellsEachFull actor.Encoder D.state self.old self.new) }
         ensures refused { OnErr result (self.new.history.events ≡ self.old.history.events) }
         ensures calm { OnErr result (IsCalm (states_of D.state self.old.bay) (states_of D.state self.new.bay)) }
         ensures accounted { OnOk result (TellsFaults D.state self.old self.new) }
@@ -202,7 +209,7 @@ impl<D: Device> Site<D> {
         ensures run { OnOk result (Keeps D.state self.old self.new) }
         ensures lowers { IfOk result (λ turn. Lowers turn self.old self.new) }
         ensures order { OnOk result (KeepsOrder self.old self.new) }
-        ensures told { OnOk result (TellsBy IsOfWorker D.state self.old self.new) }
+        ensures told { OnOk result (TellsBy actor.Encoder D.state self.old self.new) }
         ensures refused { OnErr result (self.new.history.events ≡ self.old.history.events) }
         ensures calm { OnErr result (IsCalm (states_of D.state self.old.bay) (states_of D.state self.new.bay)) }
         ensures accounted { OnOk result (TellsFaults D.state self.old self.new) }
@@ -229,7 +236,8 @@ impl<D: Device> Site<D> {
         ensures run { OnOk result (Keeps D.state self.old self.new) }
         ensures lowers { IfOk result (λ turn. Lowers turn self.old self.new) }
         ensures order { OnOk result (KeepsOrder self.old self.new) }
-        ensures told { OnOk result (TellsBy IsOfWorker D.state self.old self.new) }
+        ensures told { OnOk result (TellsBy actor.Encoder D.state self.old self.new) }
+        ensures full { OnOk result (TellsEachFull actor.Encoder D.state self.old self.new) }
         ensures refused { OnErr result (self.new.history.events ≡ self.old.history.events) }
         ensures calm { OnErr result (IsCalm (states_of D.state self.old.bay) (states_of D.state self.new.bay)) }
         ensures accounted { OnOk result (TellsFaults D.state self.old self.new) }
@@ -249,7 +257,8 @@ impl<D: Device> Site<D> {
         ensures run { OnOk result (Keeps D.state self.old self.new) }
         ensures lowers { IfOk result (λ turn. Lowers turn self.old self.new) }
         ensures order { OnOk result (KeepsOrder self.old self.new) }
-        ensures told { OnOk result (TellsBy IsOfWorker D.state self.old self.new) }
+        ensures told { OnOk result (TellsBy actor.Encoder D.state self.old self.new) }
+        ensures full { OnOk result (TellsEachFull actor.Encoder D.state self.old self.new) }
         ensures refused { OnErr result (self.new.history.events ≡ self.old.history.events) }
         ensures calm { OnErr result (IsCalm (states_of D.state self.old.bay) (states_of D.state self.new.bay)) }
         ensures accounted { OnOk result (TellsFaults D.state self.old self.new) }
@@ -286,7 +295,8 @@ impl<D: Device> Site<D> {
         ensures run { OnOk result (Keeps D.state self.old self.new) }
         ensures lowers { IfOk result (λ turn. Lowers turn self.old self.new) }
         ensures order { OnOk result (KeepsOrder self.old self.new) }
-        ensures told { OnOk result (TellsBy IsOfWorker D.state self.old self.new) }
+        ensures told { OnOk result (TellsBy actor.Encoder D.state self.old self.new) }
+        ensures full { OnOk result (TellsEachFull actor.Encoder D.state self.old self.new) }
         ensures refused { OnErr result (self.new.history.events ≡ self.old.history.events) }
         ensures calm { OnErr result (IsCalm (states_of D.state self.old.bay) (states_of D.state self.new.bay)) }
         ensures accounted { OnOk result (TellsFaults D.state self.old self.new) }
@@ -319,7 +329,7 @@ impl<D: Device> Site<D> {
         ensures run { OnOk result (Keeps D.state self.old self.new) }
         ensures lowers { IfOk result (λ turn. Lowers turn self.old self.new) }
         ensures order { OnOk result (KeepsOrder self.old self.new) }
-        ensures told { OnOk result (TellsBy IsOfWorker D.state self.old self.new) }
+        ensures told { OnOk result (TellsBy actor.Encoder D.state self.old self.new) }
         ensures refused { OnErr result (self.new.history.events ≡ self.old.history.events) }
         ensures calm { OnErr result (IsCalm (states_of D.state self.old.bay) (states_of D.state self.new.bay)) }
         ensures accounted { OnOk result (TellsFaults D.state self.old self.new) }
@@ -341,7 +351,7 @@ impl<D: Device> Site<D> {
         ensures run { OnOk result (Keeps D.state self.old self.new) }
         ensures lowers { IfOk result (λ turn. Lowers turn self.old self.new) }
         ensures order { OnOk result (KeepsOrder self.old self.new) }
-        ensures told { OnOk result (TellsBy IsOfWorker D.state self.old self.new) }
+        ensures told { OnOk result (TellsBy actor.Encoder D.state self.old self.new) }
         ensures refused { OnErr result (self.new.history.events ≡ self.old.history.events) }
         ensures calm { OnErr result (IsCalm (states_of D.state self.old.bay) (states_of D.state self.new.bay)) }
         ensures accounted { OnOk result (TellsFaults D.state self.old self.new) }
@@ -372,7 +382,7 @@ impl<D: Device> Site<D> {
         ensures run { OnOk result (Keeps D.state self.old self.new) }
         ensures lowers { IfOk result (λ turn. Lowers turn self.old self.new) }
         ensures order { OnOk result (KeepsOrder self.old self.new) }
-        ensures told { OnOk result (TellsBy IsOfWorker D.state self.old self.new) }
+        ensures told { OnOk result (TellsBy actor.Encoder D.state self.old self.new) }
         ensures refused { OnErr result (self.new.history.events ≡ self.old.history.events) }
         ensures calm { OnErr result (IsCalm (states_of D.state self.old.bay) (states_of D.state self.new.bay)) }
         ensures accounted { OnOk result (TellsFaults D.state self.old self.new) }

@@ -1,5 +1,5 @@
 // What the moves do to a bay's devices, with the refusals as the site's.
-ghost use Rattle.std.specs.Prelude.{◌≡◌, ◌≤◌, ◌<◌, ◌*◌, ℕ, IfOk, OnOk, OnErr, true, length, codes, take, drop};
+ghost use Rattle.std.specs.Prelude.{◌≡◌, ◌≤◌, ◌<◌, ◌+◌, ◌*◌, ℕ, List, IfOk, OnOk, OnErr, true, length, codes, take, drop};
 ghost use Rattle.node_device.specs.File.{bytes_of};
 ghost use Rattle.node_device.specs.Rack.{states_of, OnlyAt};
 ghost use Rattle.gated_record.specs.PairSteps.{StepsPair};
@@ -8,6 +8,7 @@ ghost use Rattle.member_store.specs.Names.{record_name, part_name};
 ghost use Rattle.member_store.specs.Members.{AreMembers, member_body};
 ghost use Rattle.site_core.specs.Calls.{Same, Written, Synced, Recorded, Turned, Refused, KeptAlike, FileDropped};
 ghost use Rattle.site_core.specs.Causes.{CallCause};
+ghost use Rattle.site_core.specs.Writes.{IsWrite, IsNoWrite, PassesOn, WayWrites, MayWayWrite};
 ghost use Rattle.halt_file.specs.Conditions.{conditions};
 ghost use Rattle.site_core.specs.Stored.{cells_of, stored_run, stored_halt};
 
@@ -30,7 +31,7 @@ use std::alloc::Global;
 pub(crate) fn last_run<D: Device>(alloc: Global, bay: &mut Bay<D>) -> Result<u32, Trouble>
     ensures run { IfOk result (λ run. (states_of D.state bay.old 32).tells ≡ true → run ≡ stored_run (cells_of (states_of D.state bay.old))) }
     ensures same { OnOk result (OnlyAt 32 Same (states_of D.state bay.old) (states_of D.state bay.new)) }
-    ensures cause { CallCause (states_of D.state bay.old) (states_of D.state bay.new) result }
+    ensures cause { CallCause IsNoWrite (states_of D.state bay.old) (states_of D.state bay.new) result }
 {
     match load_number(alloc, bay) {
         Ok(None) => Ok(0),
@@ -43,7 +44,7 @@ pub(crate) fn last_run<D: Device>(alloc: Global, bay: &mut Bay<D>) -> Result<u32
 pub(crate) fn halt_now<D: Device>(alloc: Global, bay: &mut Bay<D>) -> Result<Halt, Trouble>
     ensures halt { IfOk result (λ halt. (states_of D.state bay.old 32).tells ≡ true → conditions halt ≡ stored_halt (cells_of (states_of D.state bay.old))) }
     ensures same { OnOk result (OnlyAt 32 Same (states_of D.state bay.old) (states_of D.state bay.new)) }
-    ensures cause { CallCause (states_of D.state bay.old) (states_of D.state bay.new) result }
+    ensures cause { CallCause IsNoWrite (states_of D.state bay.old) (states_of D.state bay.new) result }
 {
     match load_halt(alloc, bay) {
         Ok(halt) => Ok(halt),
@@ -59,7 +60,8 @@ pub(crate) fn store_number<D: Device>(
 ) -> Result<bool, Trouble>
     ensures want { storing.new.want ≡ storing.old.want }
     ensures steps { IfOk result (λ over. OnlyAt 32 (λ a b. StepsPair (codes "run") storing.old.want (Rattle.std.specs.Prelude.Ok over) storing.old.changes storing.new.changes a b) (states_of D.state bay.old) (states_of D.state bay.new)) }
-    ensures cause { CallCause (states_of D.state bay.old) (states_of D.state bay.new) result }
+    ensures cause { CallCause (MayWayWrite storing.old) (states_of D.state bay.old) (states_of D.state bay.new) result }
+    ensures fits { OnOk result ((p at count : ℕ) → (name : List ℕ) → WayWrites storing.old p name at count → PassesOn (states_of D.state bay.old) p name at count → ⊥) }
 {
     let used = bay.used_at(32);
     match step_number(alloc, bay, storing) {
@@ -83,7 +85,7 @@ pub(crate) fn members_at<D: Device>(
     requires { place < 32 }
     ensures members { IfOk result (λ members. (states_of D.state bay.old place).tells ≡ true → AreMembers shape (states_of D.state bay.old place) members.items) }
     ensures same { OnOk result (OnlyAt place Same (states_of D.state bay.old) (states_of D.state bay.new)) }
-    ensures cause { CallCause (states_of D.state bay.old) (states_of D.state bay.new) result }
+    ensures cause { CallCause IsNoWrite (states_of D.state bay.old) (states_of D.state bay.new) result }
 {
     match scan_at(alloc, bay, place, shape) {
         Ok(members) => Ok(members),
@@ -104,7 +106,8 @@ pub(crate) fn put_part<D: Device>(
     requires { place < 32 }
     ensures written { OnOk result (OnlyAt place (Written (part_name which node part) at bytes.now) (states_of D.state bay.old) (states_of D.state bay.new)) }
     ensures refused { OnErr result (OnlyAt place (Refused (part_name which node part)) (states_of D.state bay.old) (states_of D.state bay.new)) }
-    ensures cause { CallCause (states_of D.state bay.old) (states_of D.state bay.new) result }
+    ensures cause { CallCause (IsWrite place (part_name which node part) at (length bytes.now)) (states_of D.state bay.old) (states_of D.state bay.new) result }
+    ensures fits { OnOk result (PassesOn (states_of D.state bay.old) place (part_name which node part) at (length bytes.now) → ⊥) }
 {
     match write_part_at(bay, place, which, node, part, at, bytes) {
         Ok(()) => Ok(()),
@@ -126,7 +129,7 @@ pub(crate) fn get_part<D: Device>(
     ensures bytes { OnOk result ((states_of D.state bay.old place).tells ≡ true → into.new ≡ take (length into.old) (drop at (bytes_of ((states_of D.state bay.old place).file (part_name which node part)).now))) }
     ensures same { OnOk result (OnlyAt place Same (states_of D.state bay.old) (states_of D.state bay.new)) }
     ensures refused { OnErr result (OnlyAt place KeptAlike (states_of D.state bay.old) (states_of D.state bay.new)) }
-    ensures cause { CallCause (states_of D.state bay.old) (states_of D.state bay.new) result }
+    ensures cause { CallCause IsNoWrite (states_of D.state bay.old) (states_of D.state bay.new) result }
 {
     match read_part_at(bay, place, which, node, part, at, into) {
         Ok(()) => Ok(()),
@@ -148,7 +151,8 @@ pub(crate) fn put_member<D: Device>(
     requires ranks { length files.now ≡ desc.now.nodes * desc.now.ranks }
     ensures refused { OnErr result (OnlyAt place (Refused (record_name desc.now.which node)) (states_of D.state bay.old) (states_of D.state bay.new)) }
     ensures recorded { OnOk result (OnlyAt place (Recorded (record_name desc.now.which node) (member_body desc.now node files.now)) (states_of D.state bay.old) (states_of D.state bay.new)) }
-    ensures cause { CallCause (states_of D.state bay.old) (states_of D.state bay.new) result }
+    ensures cause { CallCause (IsWrite place (record_name desc.now.which node) 8 (8 + length (member_body desc.now node files.now))) (states_of D.state bay.old) (states_of D.state bay.new) result }
+    ensures fits { OnOk result (PassesOn (states_of D.state bay.old) place (record_name desc.now.which node) 8 (8 + length (member_body desc.now node files.now)) → ⊥) }
 {
     match write_member_at(alloc, bay, place, node, desc, files) {
         Ok(()) => Ok(()),
@@ -166,7 +170,8 @@ pub(crate) fn put_gate<D: Device>(
 ) -> Result<(), Trouble>
     requires { place < 32 }
     ensures turned { OnOk result (OnlyAt place (Turned (record_name which node) (gate_number gate)) (states_of D.state bay.old) (states_of D.state bay.new)) }
-    ensures cause { CallCause (states_of D.state bay.old) (states_of D.state bay.new) result }
+    ensures cause { CallCause (IsWrite place (record_name which node) (gate_number gate) 1) (states_of D.state bay.old) (states_of D.state bay.new) result }
+    ensures fits { OnOk result (PassesOn (states_of D.state bay.old) place (record_name which node) (gate_number gate) 1 → ⊥) }
 {
     match open_gate_at(bay, place, which, node, gate) {
         Ok(()) => Ok(()),
@@ -179,7 +184,7 @@ pub(crate) fn sync_node<D: Device>(bay: &mut Bay<D>, place: u8) -> Result<(), Tr
     requires { place < 32 }
     ensures refused { OnErr result (OnlyAt place KeptAlike (states_of D.state bay.old) (states_of D.state bay.new)) }
     ensures synced { OnOk result (OnlyAt place Synced (states_of D.state bay.old) (states_of D.state bay.new)) }
-    ensures cause { CallCause (states_of D.state bay.old) (states_of D.state bay.new) result }
+    ensures cause { CallCause IsNoWrite (states_of D.state bay.old) (states_of D.state bay.new) result }
 {
     match bay.sync_at(place) {
         Ok(()) => Ok(()),
@@ -199,7 +204,7 @@ pub(crate) fn drop_file<D: Device>(
     ensures node { removal.new.node ≡ removal.old.node }
     ensures dropped { IfOk result (λ over. OnlyAt place (FileDropped removal.old.which removal.old.node over removal.old.changes removal.new.changes) (states_of D.state bay.old) (states_of D.state bay.new)) }
     ensures stays { OnErr result (removal.new ≡ removal.old) }
-    ensures cause { CallCause (states_of D.state bay.old) (states_of D.state bay.new) result }
+    ensures cause { CallCause IsNoWrite (states_of D.state bay.old) (states_of D.state bay.new) result }
 {
     match drop_file_at(alloc, bay, place, removal) {
         Ok(over) => Ok(over),

@@ -13,7 +13,9 @@ ghost use Rattle.scr_base.specs.declared.answers.Reply.TheVariants as reply;
 ghost use Rattle.site_core.specs.Causes.{told_trouble, IsCalm};
 ghost use Rattle.site_core.specs.Ahead.{Lowers};
 ghost use Rattle.site_core.specs.Order.{KeepsOrder};
-ghost use Rattle.site_core.specs.Follows.{Keeps, TellsBy, IsOfRank, IsSameRun, Stays, IsNextLocal, MayTell, TellsFaults};
+ghost use Rattle.scr_base.specs.declared.actor.Actor.TheVariants as actor;
+ghost use Rattle.site_core.specs.Follows.{Keeps, TellsBy, TellsEachFull, IsSameRun, Stays, MayTell, TellsFaults};
+ghost use Rattle.site_core.specs.Steps.{IsNextLocal};
 
 use crate::core_state::Stage;
 use crate::error::{SiteError, Trouble};
@@ -34,7 +36,8 @@ impl<D: Device> Site<D> {
         ensures run { OnOk result (Keeps D.state self.old self.new) }
         ensures lowers { IfOk result (λ turn. Lowers turn self.old self.new) }
         ensures order { OnOk result (KeepsOrder self.old self.new) }
-        ensures told { OnOk result (TellsBy (IsOfRank rank) D.state self.old self.new) }
+        ensures told { OnOk result (TellsBy (actor.Rank rank) D.state self.old self.new) }
+        ensures full { OnOk result (TellsEachFull (actor.Rank rank) D.state self.old self.new) }
         ensures refused { OnErr result (self.new.history.events ≡ self.old.history.events) }
         ensures calm { OnErr result (IsCalm (states_of D.state self.old.bay) (states_of D.state self.new.bay)) }
         ensures accounted { OnOk result (TellsFaults D.state self.old self.new) }
@@ -57,7 +60,8 @@ impl<D: Device> Site<D> {
         ensures run { OnOk result (Keeps D.state self.old self.new) }
         ensures lowers { IfOk result (λ turn. Lowers turn self.old self.new) }
         ensures order { OnOk result (KeepsOrder self.old self.new) }
-        ensures told { OnOk result (TellsBy (IsOfRank rank) D.state self.old self.new) }
+        ensures told { OnOk result (TellsBy (actor.Rank rank) D.state self.old self.new) }
+        ensures full { OnOk result (TellsEachFull (actor.Rank rank) D.state self.old self.new) }
         ensures refused { OnErr result (self.new.history.events ≡ self.old.history.events) }
         ensures calm { OnErr result (IsCalm (states_of D.state self.old.bay) (states_of D.state self.new.bay)) }
         ensures accounted { OnOk result (TellsFaults D.state self.old self.new) }
@@ -126,7 +130,7 @@ impl<D: Device> Site<D> {
         ensures run { OnOk result (Keeps D.state self.old self.new) }
         ensures lowers { IfOk result (λ turn. Lowers turn self.old self.new) }
         ensures order { OnOk result (KeepsOrder self.old self.new) }
-        ensures told { OnOk result (TellsBy (IsOfRank rank) D.state self.old self.new) }
+        ensures told { OnOk result (TellsBy (actor.Rank rank) D.state self.old self.new) }
         ensures refused { OnErr result (self.new.history.events ≡ self.old.history.events) }
         ensures calm { OnErr result (IsCalm (states_of D.state self.old.bay) (states_of D.state self.new.bay)) }
         ensures accounted { OnOk result (TellsFaults D.state self.old self.new) }
@@ -147,7 +151,8 @@ impl<D: Device> Site<D> {
         ensures run { OnOk result (Keeps D.state self.old self.new) }
         ensures lowers { IfOk result (λ turn. Lowers turn self.old self.new) }
         ensures order { OnOk result (KeepsOrder self.old self.new) }
-        ensures told { OnOk result (TellsBy (IsOfRank rank) D.state self.old self.new) }
+        ensures told { OnOk result (TellsBy (actor.Rank rank) D.state self.old self.new) }
+        ensures full { OnOk result (TellsEachFull (actor.Rank rank) D.state self.old self.new) }
         ensures refused { OnErr result (self.new.history.events ≡ self.old.history.events) }
         ensures calm { OnErr result (IsCalm (states_of D.state self.old.bay) (states_of D.state self.new.bay)) }
         ensures accounted { OnOk result (TellsFaults D.state self.old self.new) }
@@ -171,7 +176,7 @@ impl<D: Device> Site<D> {
         ensures run { OnOk result (Keeps D.state self.old self.new) }
         ensures lowers { IfOk result (λ turn. Lowers turn self.old self.new) }
         ensures order { OnOk result (KeepsOrder self.old self.new) }
-        ensures told { OnOk result (TellsBy (IsOfRank rank) D.state self.old self.new) }
+        ensures told { OnOk result (TellsBy (actor.Rank rank) D.state self.old self.new) }
         ensures refused { OnErr result (self.new.history.events ≡ self.old.history.events) }
         ensures calm { OnErr result (IsCalm (states_of D.state self.old.bay) (states_of D.state self.new.bay)) }
         ensures accounted { OnOk result (TellsFaults D.state self.old self.new) }
@@ -196,7 +201,8 @@ impl<D: Device> Site<D> {
         ensures run { OnOk result (Keeps D.state self.old self.new) }
         ensures lowers { IfOk result (λ turn. Lowers turn self.old self.new) }
         ensures order { OnOk result (KeepsOrder self.old self.new) }
-        ensures told { OnOk result (TellsBy (IsOfRank rank) D.state self.old self.new) }
+        ensures told { OnOk result (TellsBy (actor.Rank rank) D.state self.old self.new) }
+        ensures full { OnOk result (TellsEachFull (actor.Rank rank) D.state self.old self.new) }
         ensures refused { OnErr result (self.new.history.events ≡ self.old.history.events) }
         ensures calm { OnErr result (IsCalm (states_of D.state self.old.bay) (states_of D.state self.new.bay)) }
         ensures accounted { OnOk result (TellsFaults D.state self.old self.new) }
@@ -239,7 +245,8 @@ impl<D: Device> Site<D> {
         ensures run { OnOk result (Keeps D.state self.old self.new) }
         ensures lowers { IfOk result (λ turn. Lowers turn self.old self.new) }
         ensures order { OnOk result (KeepsOrder self.old self.new) }
-        ensures told { OnOk result (TellsBy (IsOfRank rank) D.state self.old self.new) }
+        ensures told { OnOk result (TellsBy (actor.Rank rank) D.state self.old self.new) }
+        ensures full { OnOk result (TellsEachFull (actor.Rank rank) D.state self.old self.new) }
         ensures refused { OnErr result (self.new.history.events ≡ self.old.history.events) }
         ensures calm { OnErr result (IsCalm (states_of D.state self.old.bay) (states_of D.state self.new.bay)) }
         ensures accounted { OnOk result (TellsFaults D.state self.old self.new) }
@@ -285,7 +292,7 @@ impl<D: Device> Site<D> {
         ensures run { OnOk result (Keeps D.state self.old self.new) }
         ensures lowers { IfOk result (λ turn. Lowers turn self.old self.new) }
         ensures order { OnOk result (KeepsOrder self.old self.new) }
-        ensures told { OnOk result (TellsBy (IsOfRank rank) D.state self.old self.new) }
+        ensures told { OnOk result (TellsBy (actor.Rank rank) D.state self.old self.new) }
         ensures refused { OnErr result (self.new.history.events ≡ self.old.history.events) }
         ensures calm { OnErr result (IsCalm (states_of D.state self.old.bay) (states_of D.state self.new.bay)) }
         ensures accounted { OnOk result (TellsFaults D.state self.old self.new) }

@@ -75,7 +75,7 @@ impl<D: Device> Site<D> {
     ghost use Rattle.site_core.specs.Ahead.{Lowers};
     ghost use Rattle.site_core.specs.Order.{IsInOrder, KeepsOrder};
     ghost use Rattle.site_core.specs.Causes.{IsCalm};
-    ghost use Rattle.site_core.specs.Follows.{Keeps, Follows, Stands, Ends, WasCut, HasStopped, TellsBy, AccountsBy, IsOf, IsActor, IsSameRun, IsHalted, KeepsCarried, Stays, Counts};
+    ghost use Rattle.site_core.specs.Follows.{Keeps, Follows, Stands, Ends, WasCut, HasStopped, TellsBy, TellsEachFull, AccountsBy, IsActor, IsSameRun, IsHalted, KeepsCarried, Stays, Counts};
 
     /// Begins a run over a bay, which it leaves as it is. The bay comes back where there is no memory. The places are those of
     /// the nodes in their order, and each rank has a program.
@@ -124,7 +124,8 @@ impl<D: Device> Site<D> {
         ensures run { OnOk result (Keeps D.state self.old self.new) }
         ensures lowers { IfOk result (λ turn. Lowers turn self.old self.new) }
         ensures order { OnOk result (KeepsOrder self.old self.new) }
-        ensures told { OnOk result (TellsBy (IsOf actor) D.state self.old self.new) }
+        ensures told { OnOk result (TellsBy actor D.state self.old self.new) }
+        ensures full { OnOk result (TellsEachFull actor D.state self.old self.new) }
         ensures refused { OnErr result (self.new.history.events ≡ self.old.history.events) }
         ensures calm { OnErr result (IsCalm (states_of D.state self.old.bay) (states_of D.state self.new.bay)) }
         ensures accounted { OnOk result (AccountsBy actor D.state self.old self.new) }
@@ -150,7 +151,8 @@ impl<D: Device> Site<D> {
         ensures run { OnOk result (Keeps D.state self.old self.new) }
         ensures lowers { IfOk result (λ turn. Lowers turn self.old self.new) }
         ensures order { OnOk result (KeepsOrder self.old self.new) }
-        ensures told { OnOk result (TellsBy (IsOf actor) D.state self.old self.new) }
+        ensures told { OnOk result (TellsBy actor D.state self.old self.new) }
+        ensures full { OnOk result (TellsEachFull actor D.state self.old self.new) }
         ensures refused { OnErr result (self.new.history.events ≡ self.old.history.events) }
         ensures calm { OnErr result (IsCalm (states_of D.state self.old.bay) (states_of D.state self.new.bay)) }
         ensures accounted { OnOk result (AccountsBy actor D.state self.old self.new) }

@@ -1,6 +1,7 @@
 use Rattle.std.proofs.Common.{Bool, Err, sym, subst}
 use Rattle.node_device.specs.Rack.{states_of}
 use Rattle.site_core.specs.Causes.{CallCause}
+use Rattle.site_core.specs.Writes.{IsNoWrite}
 use Rattle.site_core.specs.declared.error.Trouble.{Trouble}
 use Rattle.site_core.proofs.CallCauses.{refused}
 use Rattle.site_core.proofs.RefusedCalls.{file_dropped, drop_refused, leaving-same}
@@ -25,4 +26,4 @@ returns-in-Err-clause-cause g c =
     let new = states_of g.D.Device.state c.drop_file_at.new.bay in
     let r = c.args.removal.now in
     let why = drop_refused c.args.place r.which r.node r.changes c.drop_file_at.new.removal.changes (old c.args.place) (new c.args.place) c.in-Err.error c.in-Err.ensures.drops.here in
-    subst (λ (e : Trouble). CallCause {T = Bool} old new (Err e)) (sym c.trouble_at.ensures) (refused c.args.place old new c.in-Err.ensures.drops.others Bool Bool c.in-Err.error c.in-Err.ensures.drops.here.cause why)
+    subst (λ (e : Trouble). CallCause {T = Bool} IsNoWrite old new (Err e)) (sym c.trouble_at.ensures) (refused c.args.place old new c.in-Err.ensures.drops.others Bool Bool _ c.in-Err.error c.in-Err.ensures.drops.here.cause why)

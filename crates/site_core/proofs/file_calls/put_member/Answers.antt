@@ -1,9 +1,11 @@
-use Rattle.std.proofs.Common.{Err, sym, subst}
+use Rattle.std.proofs.Common.{Err, length, ◌+◌, sym, subst}
 use Rattle.node_device.specs.Rack.{states_of}
 use Rattle.site_core.specs.Causes.{CallCause}
+use Rattle.site_core.specs.Writes.{IsWrite}
 use Rattle.site_core.specs.declared.error.Trouble.{Trouble}
 use Rattle.site_core.proofs.CallCauses.{refused, record_refused, recorded, calm_at}
 use Rattle.member_store.specs.Names.{record_name}
+use Rattle.member_store.specs.Members.{member_body}
 use Rattle.site_core.proofs.RefusedCalls.{write_refused}
 use Rattle.site_core.proofs.file_calls.put_member.Goals as goal
 
@@ -23,8 +25,8 @@ pub returns-in-Err-clause-cause : goal.returns-in-Err-clause-cause
 returns-in-Err-clause-cause g c =
     let old = states_of g.D.Device.state c.args.bay.now in
     let new = states_of g.D.Device.state c.write_member_at.new.bay in
-    let why = record_refused c.args.place c.args.node c.args.desc.now c.args.files.now (old c.args.place) (new c.args.place) c.in-Err.error c.requires.place c.in-Err.ensures.here in
-    subst (λ (e : Trouble). CallCause {T = Unit {0}} old new (Err e)) (sym c.trouble_at.ensures) (refused c.args.place old new c.in-Err.ensures.others (Unit {0}) (Unit {0}) c.in-Err.error c.in-Err.ensures.here.cause why)
+    let why = record_refused c.args.place c.args.node c.args.desc.now c.args.files.now (old c.args.place) (new c.args.place) c.in-Err.error c.in-Err.ensures.here in
+    subst (λ (e : Trouble). CallCause {T = Unit {0}} (IsWrite c.args.place (record_name c.args.desc.now.which c.args.node) 8 (8 + length (member_body c.args.desc.now c.args.node c.args.files.now))) old new (Err e)) (sym c.trouble_at.ensures) (refused c.args.place old new c.in-Err.ensures.others (Unit {0}) (Unit {0}) _ c.in-Err.error c.in-Err.ensures.here.cause why)
 
 pub returns-in-Err-clause-refused : goal.returns-in-Err-clause-refused
 returns-in-Err-clause-refused g c =

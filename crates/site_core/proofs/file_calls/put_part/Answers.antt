@@ -1,6 +1,7 @@
-use Rattle.std.proofs.Common.{Err, sym, subst}
+use Rattle.std.proofs.Common.{Err, length, sym, subst}
 use Rattle.node_device.specs.Rack.{states_of}
 use Rattle.site_core.specs.Causes.{CallCause}
+use Rattle.site_core.specs.Writes.{IsWrite}
 use Rattle.site_core.specs.declared.error.Trouble.{Trouble}
 use Rattle.site_core.proofs.CallCauses.{refused, part_refused}
 use Rattle.member_store.specs.Names.{part_name}
@@ -11,8 +12,8 @@ pub returns-in-Err-clause-cause : goal.returns-in-Err-clause-cause
 returns-in-Err-clause-cause g c =
     let old = states_of g.D.Device.state c.args.bay.now in
     let new = states_of g.D.Device.state c.write_part_at.new.bay in
-    let why = part_refused c.args.place c.args.which c.args.node c.args.part c.args.at c.args.bytes.now (old c.args.place) (new c.args.place) c.in-Err.error c.requires c.in-Err.ensures.here in
-    subst (λ (e : Trouble). CallCause {T = Unit {0}} old new (Err e)) (sym c.trouble_at.ensures) (refused c.args.place old new c.in-Err.ensures.others (Unit {0}) (Unit {0}) c.in-Err.error c.in-Err.ensures.here.cause why)
+    let why = part_refused c.args.place c.args.which c.args.node c.args.part c.args.at c.args.bytes.now (old c.args.place) (new c.args.place) c.in-Err.error c.in-Err.ensures.here in
+    subst (λ (e : Trouble). CallCause {T = Unit {0}} (IsWrite c.args.place (part_name c.args.which c.args.node c.args.part) c.args.at (length c.args.bytes.now)) old new (Err e)) (sym c.trouble_at.ensures) (refused c.args.place old new c.in-Err.ensures.others (Unit {0}) (Unit {0}) _ c.in-Err.error c.in-Err.ensures.here.cause why)
 
 pub returns-in-Err-clause-refused : goal.returns-in-Err-clause-refused
 returns-in-Err-clause-refused g c =

@@ -5,6 +5,7 @@ use Rattle.site_core.specs.Stored.{cells_of, stored_run}
 use Rattle.site_core.specs.Holds.{Leads}
 use Rattle.site_core.specs.Follows.{IsOfWorker}
 use Rattle.site_core.proofs.Telling.{tells_of, same_states, on_ok, on_ok2, on_ok3}
+use Rattle.site_core.proofs.CallCauses.{no_write}
 use Rattle.site_core.proofs.Turns.{ends_early, tells_end, moved_stays, told_across}
 use Rattle.site_core.specs.Waiting.{is_over}
 use Rattle.site_core.specs.Causes.{IsCalm}
@@ -33,7 +34,7 @@ returns-in-Ok-clause-told g c =
     let s = c.args.self.now in
     let state = g.D.Device.state in
     let same = same_states 32 (states_of state s.bay) (states_of state c.last_run.new.bay) c.in-Ok.ensures.same in
-    on_ok c.take_number.result (told_across IsOfWorker state s (record s { bay = c.last_run.new.bay; history = c.reserve.new.self }) c.take_number.new.self c.reserve.ensures.events refl same) c.take_number.ensures.told
+    on_ok c.take_number.result (told_across IsOfWorker _ state s (record s { bay = c.last_run.new.bay; history = c.reserve.new.self }) c.take_number.new.self c.reserve.ensures.events refl same) c.take_number.ensures.told
 
 pub returns-in-Ok-clause-still : goal.returns-in-Ok-clause-still
 returns-in-Ok-clause-still g c = moved_stays c.args.self.now c.take_number.new.self c.take_number.result c.take_number.ensures.moved
@@ -43,7 +44,7 @@ returns-in-Err-clause-run g c = on_ok3 c.stop_by.result (λ e k t. ends_early g.
     c.stop_by.ensures.events c.stop_by.ensures.core c.stop_by.ensures.told
 
 pub returns-in-Err-clause-told : goal.returns-in-Err-clause-told
-returns-in-Err-clause-told g c = on_ok2 c.stop_by.result (λ e t. tells_end g.D.Device.state c.args.self.now c.stop_by.new.self c.in-Err.trouble (behind _ e c.reserve.ensures.events) ℕ c.last_run.new.bay c.stop_by.ensures.bay t c.in-Err.ensures.cause)
+returns-in-Err-clause-told g c = on_ok2 c.stop_by.result (λ e t. tells_end g.D.Device.state c.args.self.now c.stop_by.new.self c.in-Err.trouble (behind _ e c.reserve.ensures.events) ℕ _ c.last_run.new.bay c.stop_by.ensures.bay t (no_write ℕ _ _ _ c.in-Err.trouble c.in-Err.ensures.cause))
     c.stop_by.ensures.events c.stop_by.ensures.told
 
 pub returns-in-Err-clause-still : goal.returns-in-Err-clause-still

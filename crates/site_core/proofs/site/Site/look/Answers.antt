@@ -9,6 +9,7 @@ use Rattle.site_core.specs.Follows.{IsOfWorker}
 use Rattle.site_core.proofs.Told.{appended}
 use Rattle.site_core.proofs.Telling.{tells_of, same_states, on_ok, on_ok2, on_ok3}
 use Rattle.site_core.proofs.LocalSteps.{lead_on}
+use Rattle.site_core.proofs.CallCauses.{no_write}
 use Rattle.site_core.proofs.Turns.{ends_looking, tells_end, tells_one, moved_stays}
 use Rattle.site_core.proofs.Seen.{seen}
 use Rattle.site_core.specs.Waiting.{is_over}
@@ -31,7 +32,7 @@ pub returns-in-Ok-clause-told : goal.returns-in-Ok-clause-told
 returns-in-Ok-clause-told g c = on_ok c.find.result (λ e.
     let s = c.args.self.now in
     let kept = map found_member (filter is_standing c.in-Ok.members.items) in
-    tells_one IsOfWorker g.D.Device.state s c.find.new.self (event.Found (map row_of kept) []) (appended c.find.new.self.history.events c.reserve.new.self.events s.history.events (event.Found (map row_of kept) []) (event.Found (map row_of kept) []) e c.reserve.ensures.events refl) tt tt)
+    tells_one IsOfWorker _ g.D.Device.state s c.find.new.self (event.Found (map row_of kept) []) (appended c.find.new.self.history.events c.reserve.new.self.events s.history.events (event.Found (map row_of kept) []) (event.Found (map row_of kept) []) e c.reserve.ensures.events refl) tt tt)
     c.find.ensures.events
 
 pub returns-in-Ok-clause-still : goal.returns-in-Ok-clause-still
@@ -42,7 +43,7 @@ returns-in-Err-clause-run g c = on_ok3 c.stop_by.result (λ e k t. ends_looking 
     c.stop_by.ensures.events c.stop_by.ensures.core c.stop_by.ensures.told
 
 pub returns-in-Err-clause-told : goal.returns-in-Err-clause-told
-returns-in-Err-clause-told g c = on_ok2 c.stop_by.result (λ e t. tells_end g.D.Device.state c.args.self.now c.stop_by.new.self c.in-Err.trouble (appended c.stop_by.new.self.history.events c.reserve.new.self.events c.args.self.now.history.events (event.Stop (cause_of c.in-Err.trouble)) (event.Stop (cause_of c.in-Err.trouble)) e c.reserve.ensures.events refl) (Unit {0}) c.members_at.new.bay c.stop_by.ensures.bay t c.in-Err.ensures.cause)
+returns-in-Err-clause-told g c = on_ok2 c.stop_by.result (λ e t. tells_end g.D.Device.state c.args.self.now c.stop_by.new.self c.in-Err.trouble (appended c.stop_by.new.self.history.events c.reserve.new.self.events c.args.self.now.history.events (event.Stop (cause_of c.in-Err.trouble)) (event.Stop (cause_of c.in-Err.trouble)) e c.reserve.ensures.events refl) (Unit {0}) _ c.members_at.new.bay c.stop_by.ensures.bay t (no_write (Unit {0}) _ _ _ c.in-Err.trouble c.in-Err.ensures.cause))
     c.stop_by.ensures.events c.stop_by.ensures.told
 
 pub returns-in-Err-clause-still : goal.returns-in-Err-clause-still

@@ -20,6 +20,7 @@ use Rattle.ckpt_model.specs.Answers.{may_fault_local}
 use Rattle.site_core.specs.declared.error.Trouble.{Trouble}
 use Rattle.site_core.specs.declared.error.Trouble.TheVariants as error
 use Rattle.site_core.specs.Causes.{CallCause}
+use Rattle.site_core.specs.Writes.{IsNoWrite}
 use Rattle.site_core.proofs.Telling.{on_ok2}
 use Rattle.site_core.proofs.LocalRefusals.{keeps_get}
 use Rattle.site_core.proofs.AheadCores.{stepped_run}
@@ -88,7 +89,7 @@ returns-in-Err-Fault-clause-accounted g c = on_ok2 c.refuse_local.result (λ e k
     let s = c.args.self.now in
     let n = c.requires.next in
     let x = e n.seat n.is in
-    refusal_told g.D.Device.state s c.refuse_local.new.self c.get_part.new.bay c.refuse_local.ensures.bay (Unit {0}) (error.Fault c.in-Err-Fault.node c.in-Err-Fault.count) x.0 c.args.rank (n.seat.number + 1) (step.Read c.args.word c.args.at c.args.len) x.1 (subst (λ (t : Trouble). CallCause {T = Unit {0}} (states_of g.D.Device.state s.bay) (states_of g.D.Device.state c.get_part.new.bay) (Err t)) c.in-Err-Fault.field-0-is c.in-Err-Fault.ensures.cause) (behind _ x.2 c.reserve.ensures.events) (carries_same s.core c.refuse_local.new.self.core (ap carried (k n.seat n.is))))
+    refusal_told g.D.Device.state s c.refuse_local.new.self c.get_part.new.bay c.refuse_local.ensures.bay (Unit {0}) IsNoWrite (error.Fault c.in-Err-Fault.node c.in-Err-Fault.count) x.0 c.args.rank (n.seat.number + 1) (step.Read c.args.word c.args.at c.args.len) x.1 (subst (λ (t : Trouble). CallCause {T = Unit {0}} IsNoWrite (states_of g.D.Device.state s.bay) (states_of g.D.Device.state c.get_part.new.bay) (Err t)) c.in-Err-Fault.field-0-is c.in-Err-Fault.ensures.cause) (behind _ x.2 c.reserve.ensures.events) (carries_same s.core c.refuse_local.new.self.core (ap carried (k n.seat n.is))))
     c.refuse_local.ensures.events c.refuse_local.ensures.core
 
 pub returns-in-Ok-get_part-clause-lowers : goal.returns-in-Ok-get_part-clause-lowers

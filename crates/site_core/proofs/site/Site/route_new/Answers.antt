@@ -19,6 +19,11 @@ use Rattle.site_core.proofs.AheadCores.{stepped_run}
 use Rattle.site_core.proofs.InOrder.{stepped_order}
 use Rattle.site_core.specs.Follows.{carried}
 use Rattle.site_core.proofs.Accounts.{well_then, refusal_told, carries_same}
+use Rattle.std.proofs.Common.{sym, subst}
+use Rattle.member_store.specs.Names.{part_name}
+use Rattle.site_core.specs.Cores.{IsSpot}
+use Rattle.site_core.specs.Writes.{IsWrite}
+use Rattle.site_core.proofs.Fulls.{passes_this, file_write, step_writes, step_full}
 use Rattle.site_core.proofs.site.Site.route_new.Goals as goal
 
 pub returns-in_ok-route-in-Ok-put_part-clause-run : goal.returns-in_ok-route-in-Ok-put_part-clause-run
@@ -87,5 +92,29 @@ returns-in-Err-clause-accounted g c = on_ok2 c.refuse_local.result (λ e k.
     let s = c.args.self.now in
     let n = c.requires.next in
     let x = e n.seat n.is in
-    refusal_told g.D.Device.state s c.refuse_local.new.self c.put_part.new.bay c.refuse_local.ensures.bay (Unit {0}) c.in-Err.trouble x.0 c.args.rank (n.seat.number + 1) (step.Route c.args.word) x.1 c.in-Err.ensures.cause (behind _ x.2 c.reserve.ensures.events) (carries_same s.core c.refuse_local.new.self.core (ap carried (k n.seat n.is))))
+    refusal_told g.D.Device.state s c.refuse_local.new.self c.put_part.new.bay c.refuse_local.ensures.bay (Unit {0}) _ c.in-Err.trouble x.0 c.args.rank (n.seat.number + 1) (step.Route c.args.word) x.1 c.in-Err.ensures.cause (behind _ x.2 c.reserve.ensures.events) (carries_same s.core c.refuse_local.new.self.core (ap carried (k n.seat n.is))))
+    c.refuse_local.ensures.events c.refuse_local.ensures.core
+
+pub returns-in_ok-route-in-Ok-put_part-clause-full : goal.returns-in_ok-route-in-Ok-put_part-clause-full
+returns-in_ok-route-in-Ok-put_part-clause-full g c = λ p a k n w passes.
+    let s = c.args.self.now in
+    let rank = c.args.rank in
+    let spot = c.in-Some.spot in
+    let name = part_name spot.which spot.node spot.part in
+    let number = c.number_of-file.ensures.number ∙ ap (λ (x : List ℕ). place_of (rows_at s.core rank) x) c.bytes.ensures.value in
+    let f = file_write s.core rank (place_of (rows_at s.core rank) c.args.word) 0 0 spot p n a k (subst (λ (x : ℕ). IsSpot s.core rank x spot) number c.in-Some.ensures) (step_writes s.programs s.core rank (step.Route c.args.word) p n a k c.requires.next w).1 in
+    absurd (c.in-Ok-put_part.ensures.fits (passes_this (states_of g.D.Device.state s.bay) spot.place name 0 0 p n a k f passes))
+
+pub returns-in-Err-clause-full : goal.returns-in-Err-clause-full
+returns-in-Err-clause-full g c = on_ok2 c.refuse_local.result (λ e core p a k n w passes.
+    let s = c.args.self.now in
+    let rank = c.args.rank in
+    let spot = c.in-Some.spot in
+    let next = c.requires.next in
+    let x = e next.seat next.is in
+    let call = step.Route c.args.word in
+    let name = part_name spot.which spot.node spot.part in
+    let number = c.number_of-file.ensures.number ∙ ap (λ (y : List ℕ). place_of (rows_at s.core rank) y) c.bytes.ensures.value in
+    let f = file_write s.core rank (place_of (rows_at s.core rank) c.args.word) 0 0 spot p n a k (subst (λ (y : ℕ). IsSpot s.core rank y spot) number c.in-Some.ensures) (step_writes s.programs s.core rank call p n a k next w).1 in
+    step_full g.D.Device.state s c.refuse_local.new.self c.put_part.new.bay (Unit {0}) (IsWrite spot.place name 0 0) p (λ q m y z this. this.0 ∙ sym f.0) c.in-Err.trouble x.0 rank (next.seat.number + 1) call x.1 c.in-Err.ensures.cause (behind _ x.2 c.reserve.ensures.events))
     c.refuse_local.ensures.events c.refuse_local.ensures.core

@@ -13,5 +13,6 @@ write_record-requires g c = record {
       let s = c.args.self.now in
       saves_now first s.core s.programs (states_of g.D.Device.state s.bay) s.history.events work.Record c.args.node (c.requires.stage ∙ ap (λ (w : Work). stage.Saving w c.args.node) c.in-Record.is) f;
   stage = inl (c.requires.stage ∙ ap (λ (w : Work). stage.Saving w c.args.node) c.in-Record.is);
+  asked = λ serving. absurd (cc (serving, c.requires.stage));
   free = none_at (stage.Saving work.Record c.args.node) c.args.self.now.core refl (c.requires.stage ∙ ap (λ (w : Work). stage.Saving w c.args.node) c.in-Record.is);
 }

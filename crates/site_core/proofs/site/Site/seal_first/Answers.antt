@@ -8,20 +8,26 @@ use Rattle.site_core.specs.declared.cache.Manifest.{Manifest}
 use Rattle.site_core.specs.declared.core_state.Core.{Core}
 use Rattle.site_core.specs.declared.core_state.Stage.TheVariants as stage
 use Rattle.site_core.specs.declared.core_state.Work.TheVariants as work
-use Rattle.site_core.proofs.Told.{appended}
+use Rattle.site_core.proofs.Told.{appended, behind}
 use Rattle.site_core.proofs.Saving.{saving_leads, staged}
 use Rattle.site_core.proofs.SaveMoves.{sealed_turned}
 use Rattle.site_core.proofs.SaveEnds.{seal_told}
 use Rattle.site_core.proofs.Works.{saves_now, opened_is}
 use Rattle.site_core.proofs.Telling.{tells_all}
 use Rattle.site_core.proofs.Telling.{on_ok2, on_ok3}
-use Rattle.site_core.proofs.Refusals.{fault_is_told}
+use Rattle.site_core.proofs.Refusals.{fault_is_told, fault_cause}
 use Rattle.site_core.proofs.Turns.{ends_saving, tells_end, moved_stays}
 use Rattle.site_core.specs.Causes.{cause_of}
 use Rattle.site_core.proofs.AheadCores.{sealed_lower, ends_lower}
 use Rattle.site_core.specs.Waiting.{is_over}
 use Rattle.site_core.specs.Order.{IsInOrder}
 use Rattle.round_core.specs.declared.seat.Seat.{Seat}
+use Rattle.std.proofs.Common.{◌∙◌, ap, sym, subst, Option, List, ◌≡◌}
+use Rattle.site_core.specs.Writes.{IsWrite, EncoderWrites}
+use Rattle.site_core.specs.declared.core_state.Stage.{Stage}
+use Rattle.site_core.proofs.Fulls.{passes_this, gate_write, end_full}
+use Rattle.member_store.specs.Names.{record_name}
+use Rattle.site_core.specs.Cores.{saved_in}
 use Rattle.site_core.proofs.site.Site.seal_first.Goals as goal
 
 pub returns-in_ok-push-in-Ok-clause-run : goal.returns-in_ok-push-in-Ok-clause-run
@@ -44,7 +50,7 @@ returns-in-Err-clause-run g c = on_ok3 c.stop_by_fault.result (λ e k t. ends_sa
     c.stop_by_fault.ensures.events c.stop_by_fault.ensures.core c.stop_by_fault.ensures.fault
 
 pub returns-in-Err-clause-told : goal.returns-in-Err-clause-told
-returns-in-Err-clause-told g c = on_ok2 c.stop_by_fault.result (λ e t. tells_end g.D.Device.state c.args.self.now c.stop_by_fault.new.self c.in-Err.trouble (appended c.stop_by_fault.new.self.history.events c.reserve.new.self.events c.args.self.now.history.events (event.Stop (cause_of c.in-Err.trouble)) (event.Stop (cause_of c.in-Err.trouble)) e c.reserve.ensures.events refl) (Unit {0}) c.put_gate.new.bay c.stop_by_fault.ensures.bay (fault_is_told c.in-Err.trouble t) c.in-Err.ensures.cause)
+returns-in-Err-clause-told g c = on_ok2 c.stop_by_fault.result (λ e t. tells_end g.D.Device.state c.args.self.now c.stop_by_fault.new.self c.in-Err.trouble (appended c.stop_by_fault.new.self.history.events c.reserve.new.self.events c.args.self.now.history.events (event.Stop (cause_of c.in-Err.trouble)) (event.Stop (cause_of c.in-Err.trouble)) e c.reserve.ensures.events refl) (Unit {0}) _ c.put_gate.new.bay c.stop_by_fault.ensures.bay (fault_is_told c.in-Err.trouble t) (fault_cause (Unit {0}) _ _ _ _ c.in-Err.trouble t c.in-Err.ensures.cause))
     c.stop_by_fault.ensures.events c.stop_by_fault.ensures.fault
 
 pub returns-in-Err-clause-still : goal.returns-in-Err-clause-still
@@ -71,3 +77,18 @@ pub returns-in_ok-push-in-Ok-clause-order : goal.returns-in_ok-push-in-Ok-clause
 returns-in_ok-push-in-Ok-clause-order g c = λ order.
     let s = c.args.self.now in
     subst (λ (rs : List Seat). IsInOrder s.programs rs) (sym (c.seal.ensures.same.ranks)) order
+
+pub returns-in_ok-push-in-Ok-clause-full : goal.returns-in_ok-push-in-Ok-clause-full
+returns-in_ok-push-in-Ok-clause-full g c = λ p a k n w passes.
+    let s = c.args.self.now in
+    let node = c.args.node in
+    let this = gate_write s.core node 1 c.in-Some.place c.in-Some-opened.m.desc.which p n a k (sym c.in-Some.ensures.place) (ap (λ (o : Option Manifest). saved_in o c.args.self.now.core.kept) c.in-Some-opened.is) (subst (λ (x : Stage). EncoderWrites x s.core p n a k) c.requires.stage w) in
+    absurd (c.in-Ok.ensures.fits (passes_this (states_of g.D.Device.state s.bay) c.in-Some.place (record_name c.in-Some-opened.m.desc.which node) 1 1 p n a k this passes))
+
+pub returns-in-Err-clause-full : goal.returns-in-Err-clause-full
+returns-in-Err-clause-full g c = on_ok2 c.stop_by_fault.result (λ e t p a k n w passes.
+    let s = c.args.self.now in
+    let node = c.args.node in
+    let this = gate_write s.core node 1 c.in-Some.place c.in-Some-opened.m.desc.which p n a k (sym c.in-Some.ensures.place) (ap (λ (o : Option Manifest). saved_in o c.args.self.now.core.kept) c.in-Some-opened.is) (subst (λ (x : Stage). EncoderWrites x s.core p n a k) c.requires.stage w) in
+    end_full g.D.Device.state s c.stop_by_fault.new.self c.put_gate.new.bay (Unit {0}) (IsWrite c.in-Some.place (record_name c.in-Some-opened.m.desc.which node) 1 1) p (λ q y z v one. one.0 ∙ sym this.0) c.in-Err.trouble (fault_is_told c.in-Err.trouble t) c.in-Err.ensures.cause (behind _ e c.reserve.ensures.events))
+    c.stop_by_fault.ensures.events c.stop_by_fault.ensures.fault

@@ -8,12 +8,16 @@ use Rattle.site_core.proofs.Saving.{saving_leads}
 use Rattle.site_core.proofs.SaveMoves.{sealed_turned}
 use Rattle.site_core.proofs.Works.{saves_now, saved_is}
 use Rattle.site_core.proofs.Telling.{tells_all, on_ok2, on_ok3}
-use Rattle.site_core.proofs.Refusals.{fault_is_told}
+use Rattle.site_core.proofs.Refusals.{fault_is_told, fault_cause}
 use Rattle.site_core.proofs.Turns.{ends_saving, tells_end, moved_stays}
 use Rattle.site_core.proofs.AheadCores.{sealed_lower}
 use Rattle.site_core.specs.declared.core_state.Stage.TheVariants as stage
 use Rattle.site_core.specs.Waiting.{is_over}
 use Rattle.site_core.proofs.Told.{behind, with_room}
+use Rattle.std.proofs.Common.{◌∙◌, ap, sym, subst}
+use Rattle.site_core.specs.Writes.{IsWrite, EncoderWrites}
+use Rattle.site_core.specs.declared.core_state.Stage.{Stage}
+use Rattle.site_core.proofs.Fulls.{passes_this, gate_write, end_full}
 use Rattle.site_core.proofs.site.Site.seal_next.Goals as goal
 
 pub returns-in-Ok-clause-run : goal.returns-in-Ok-clause-run
@@ -32,7 +36,7 @@ returns-in-Err-clause-run g c = on_ok3 c.stop_by_fault.result (λ e k t. ends_sa
     c.stop_by_fault.ensures.events c.stop_by_fault.ensures.core c.stop_by_fault.ensures.fault
 
 pub returns-in-Err-clause-told : goal.returns-in-Err-clause-told
-returns-in-Err-clause-told g c = on_ok2 c.stop_by_fault.result (λ e t. tells_end g.D.Device.state c.args.self.now c.stop_by_fault.new.self c.in-Err.trouble (behind _ e c.reserve.ensures.events) (Unit {0}) c.put_gate.new.bay c.stop_by_fault.ensures.bay (fault_is_told c.in-Err.trouble t) c.in-Err.ensures.cause)
+returns-in-Err-clause-told g c = on_ok2 c.stop_by_fault.result (λ e t. tells_end g.D.Device.state c.args.self.now c.stop_by_fault.new.self c.in-Err.trouble (behind _ e c.reserve.ensures.events) (Unit {0}) _ c.put_gate.new.bay c.stop_by_fault.ensures.bay (fault_is_told c.in-Err.trouble t) (fault_cause (Unit {0}) _ _ _ _ c.in-Err.trouble t c.in-Err.ensures.cause))
     c.stop_by_fault.ensures.events c.stop_by_fault.ensures.fault
 
 pub returns-in-Err-clause-still : goal.returns-in-Err-clause-still
@@ -45,3 +49,18 @@ returns-in-Ok-clause-lowers g c =
 
 pub returns-in-Err-clause-lowers : goal.returns-in-Err-clause-lowers
 returns-in-Err-clause-lowers g c = c.stop_by_fault.ensures.lowers (ap is_over c.requires.stage)
+
+pub returns-in-Ok-clause-full : goal.returns-in-Ok-clause-full
+returns-in-Ok-clause-full g c = λ p a k n w passes.
+    let s = c.args.self.now in
+    let node = c.args.node in
+    let this = gate_write s.core node 1 c.in-Some.place c.in-Some-saved.which p n a k (sym c.in-Some.ensures.place) (sym c.in-Some-saved.ensures) (subst (λ (x : Stage). EncoderWrites x s.core p n a k) c.requires.stage w) in
+    absurd (c.in-Ok.ensures.fits (passes_this (states_of g.D.Device.state s.bay) c.in-Some.place (record_name c.in-Some-saved.which node) 1 1 p n a k this passes))
+
+pub returns-in-Err-clause-full : goal.returns-in-Err-clause-full
+returns-in-Err-clause-full g c = on_ok2 c.stop_by_fault.result (λ e t p a k n w passes.
+    let s = c.args.self.now in
+    let node = c.args.node in
+    let this = gate_write s.core node 1 c.in-Some.place c.in-Some-saved.which p n a k (sym c.in-Some.ensures.place) (sym c.in-Some-saved.ensures) (subst (λ (x : Stage). EncoderWrites x s.core p n a k) c.requires.stage w) in
+    end_full g.D.Device.state s c.stop_by_fault.new.self c.put_gate.new.bay (Unit {0}) (IsWrite c.in-Some.place (record_name c.in-Some-saved.which node) 1 1) p (λ q y z v one. one.0 ∙ sym this.0) c.in-Err.trouble (fault_is_told c.in-Err.trouble t) c.in-Err.ensures.cause (behind _ e c.reserve.ensures.events))
+    c.stop_by_fault.ensures.events c.stop_by_fault.ensures.fault

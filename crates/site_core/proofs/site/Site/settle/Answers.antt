@@ -10,7 +10,7 @@ use Rattle.site_core.proofs.Told.{appended}
 use Rattle.site_core.proofs.SaveEnds.{settle_told}
 use Rattle.site_core.proofs.Works.{saves_now, saved_is, last_node}
 use Rattle.site_core.proofs.Telling.{on_ok2, on_ok3}
-use Rattle.site_core.proofs.Refusals.{fault_is_told}
+use Rattle.site_core.proofs.Refusals.{fault_is_told, fault_cause}
 use Rattle.site_core.proofs.Turns.{ends_saving, tells_end, moved_stays}
 use Rattle.site_core.specs.Causes.{cause_of}
 use Rattle.site_core.proofs.AheadCores.{settled_lower}
@@ -36,7 +36,7 @@ returns-in-Err-clause-run g c = on_ok3 c.stop_by_fault.result (λ e k t. ends_sa
     c.stop_by_fault.ensures.events c.stop_by_fault.ensures.core c.stop_by_fault.ensures.fault
 
 pub returns-in-Err-clause-told : goal.returns-in-Err-clause-told
-returns-in-Err-clause-told g c = on_ok2 c.stop_by_fault.result (λ e t. tells_end g.D.Device.state c.args.self.now c.stop_by_fault.new.self c.in-Err.trouble (appended c.stop_by_fault.new.self.history.events c.reserve.new.self.events c.args.self.now.history.events (event.Stop (cause_of c.in-Err.trouble)) (event.Stop (cause_of c.in-Err.trouble)) e c.reserve.ensures.events refl) (Unit {0}) c.sync_node.new.bay c.stop_by_fault.ensures.bay (fault_is_told c.in-Err.trouble t) c.in-Err.ensures.cause)
+returns-in-Err-clause-told g c = on_ok2 c.stop_by_fault.result (λ e t. tells_end g.D.Device.state c.args.self.now c.stop_by_fault.new.self c.in-Err.trouble (appended c.stop_by_fault.new.self.history.events c.reserve.new.self.events c.args.self.now.history.events (event.Stop (cause_of c.in-Err.trouble)) (event.Stop (cause_of c.in-Err.trouble)) e c.reserve.ensures.events refl) (Unit {0}) _ c.sync_node.new.bay c.stop_by_fault.ensures.bay (fault_is_told c.in-Err.trouble t) (fault_cause (Unit {0}) _ _ _ _ c.in-Err.trouble t c.in-Err.ensures.cause))
     c.stop_by_fault.ensures.events c.stop_by_fault.ensures.fault
 
 pub returns-in-Err-clause-still : goal.returns-in-Err-clause-still

@@ -1,16 +1,19 @@
-use Rattle.std.proofs.Common.{arith, [], ◌∷◌, List, ℕ, Bool, ap, sym, subst, refl}
+use Rattle.std.proofs.Common.{◌≡◌, ◌∙◌, arith, [], ◌∷◌, List, ℕ, Bool, ap, sym, subst, refl}
 use Rattle.ckpt_model.specs.declared.event.Event.{Event}
 use Rattle.ckpt_model.specs.declared.event.Event.TheVariants as event
 use Rattle.node_device.specs.Rack.{states_of}
 use Rattle.site_core.specs.Holds.{Leads}
-use Rattle.site_core.proofs.Told.{appended}
+use Rattle.site_core.proofs.Told.{appended, behind}
 use Rattle.site_core.proofs.Telling.{tells_all}
 use Rattle.site_core.proofs.Stored.{stepped, arrived}
 use Rattle.site_core.specs.Causes.{cause_of}
 use Rattle.site_core.proofs.Telling.{on_ok2, on_ok3}
+use Rattle.site_core.specs.Writes.{MayWayWrite}
+use Rattle.site_core.proofs.CallCauses.{cause_by}
 use Rattle.site_core.proofs.Turns.{ends_storing, tells_end, moved_stays}
 use Rattle.site_core.proofs.AheadCores.{nearer_lower, stored_lower, ends_lower}
 use Rattle.site_core.specs.Waiting.{is_over}
+use Rattle.site_core.proofs.Fulls.{end_full, at_prefix}
 use Rattle.site_core.proofs.site.Site.store.Goals as goal
 
 pub returns-then-not-over-clause-run : goal.returns-then-not-over-clause-run
@@ -32,7 +35,7 @@ returns-in-Err-clause-run g c = on_ok3 c.stop_by.result (λ e k t. ends_storing 
     c.stop_by.ensures.events c.stop_by.ensures.core c.stop_by.ensures.told
 
 pub returns-in-Err-clause-told : goal.returns-in-Err-clause-told
-returns-in-Err-clause-told g c = on_ok2 c.stop_by.result (λ e t. tells_end g.D.Device.state c.args.self.now c.stop_by.new.self c.in-Err.trouble (appended c.stop_by.new.self.history.events c.reserve.new.self.events c.args.self.now.history.events (event.Stop (cause_of c.in-Err.trouble)) (event.Stop (cause_of c.in-Err.trouble)) e c.reserve.ensures.events refl) Bool c.store_number.new.bay c.stop_by.ensures.bay t c.in-Err.ensures.cause)
+returns-in-Err-clause-told g c = on_ok2 c.stop_by.result (λ e t. tells_end g.D.Device.state c.args.self.now c.stop_by.new.self c.in-Err.trouble (appended c.stop_by.new.self.history.events c.reserve.new.self.events c.args.self.now.history.events (event.Stop (cause_of c.in-Err.trouble)) (event.Stop (cause_of c.in-Err.trouble)) e c.reserve.ensures.events refl) Bool _ c.store_number.new.bay c.stop_by.ensures.bay t (cause_by Bool (MayWayWrite c.args.self.now.core.storing) _ (λ p n a k w. (c.requires, w)) _ _ c.in-Err.trouble c.in-Err.ensures.cause))
     c.stop_by.ensures.events c.stop_by.ensures.told
 
 pub returns-in-Err-clause-still : goal.returns-in-Err-clause-still
@@ -58,3 +61,10 @@ pub returns-in-Err-clause-lowers : goal.returns-in-Err-clause-lowers
 returns-in-Err-clause-lowers g c =
     let s = c.args.self.now in
     ends_lower s c.stop_by.new.self (record s.core { storing = c.store_number.new.storing }) c.stop_by.result (ap is_over c.requires) refl refl c.stop_by.ensures.fixed.programs c.stop_by.ensures.moved c.stop_by.ensures.core
+
+pub returns-in-Err-clause-full : goal.returns-in-Err-clause-full
+returns-in-Err-clause-full g c = on_ok2 c.stop_by.result (λ e t p a k n w passes.
+    let s = c.args.self.now in
+    let only : (q : ℕ) (m : List ℕ) (x y : ℕ) → MayWayWrite s.core.storing q m x y → q ≡ p = λ q m x y may. at_prefix s.core.storing q m x y may ∙ sym w.1.0 in
+    end_full g.D.Device.state s c.stop_by.new.self c.store_number.new.bay Bool (MayWayWrite s.core.storing) p only c.in-Err.trouble t c.in-Err.ensures.cause (behind _ e c.reserve.ensures.events))
+    c.stop_by.ensures.events c.stop_by.ensures.told

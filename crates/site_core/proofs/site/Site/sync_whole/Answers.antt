@@ -6,7 +6,7 @@ use Rattle.site_core.specs.Holds.{Leads}
 use Rattle.site_core.proofs.Saving.{staged}
 use Rattle.site_core.proofs.Works.{saves_now, whole_after}
 use Rattle.site_core.proofs.Telling.{on_ok2, on_ok3}
-use Rattle.site_core.proofs.Refusals.{fault_is_told}
+use Rattle.site_core.proofs.Refusals.{fault_is_told, fault_cause}
 use Rattle.site_core.proofs.Turns.{ends_saving, tells_end, moved_stays}
 use Rattle.site_core.proofs.AheadCores.{whole_done}
 use Rattle.site_core.specs.Waiting.{is_over}
@@ -27,7 +27,7 @@ returns-in-Err-clause-run g c = on_ok3 c.stop_by_fault.result (λ e k t. ends_sa
     c.stop_by_fault.ensures.events c.stop_by_fault.ensures.core c.stop_by_fault.ensures.fault
 
 pub returns-in-Err-clause-told : goal.returns-in-Err-clause-told
-returns-in-Err-clause-told g c = on_ok2 c.stop_by_fault.result (λ e t. tells_end g.D.Device.state c.args.self.now c.stop_by_fault.new.self c.in-Err.trouble (behind _ e c.reserve.ensures.events) (Unit {0}) c.sync_node.new.bay c.stop_by_fault.ensures.bay (fault_is_told c.in-Err.trouble t) c.in-Err.ensures.cause)
+returns-in-Err-clause-told g c = on_ok2 c.stop_by_fault.result (λ e t. tells_end g.D.Device.state c.args.self.now c.stop_by_fault.new.self c.in-Err.trouble (behind _ e c.reserve.ensures.events) (Unit {0}) _ c.sync_node.new.bay c.stop_by_fault.ensures.bay (fault_is_told c.in-Err.trouble t) (fault_cause (Unit {0}) _ _ _ _ c.in-Err.trouble t c.in-Err.ensures.cause))
     c.stop_by_fault.ensures.events c.stop_by_fault.ensures.fault
 
 pub returns-in-Err-clause-still : goal.returns-in-Err-clause-still

@@ -5,6 +5,7 @@ use Rattle.site_core.specs.declared.core_state.Core.{Core}
 use Rattle.site_core.specs.Holds.{Leads}
 use Rattle.site_core.proofs.Numbering.{numbered, numbered_core}
 use Rattle.site_core.proofs.Telling.{tells_of, same_states, on_ok2, on_ok3}
+use Rattle.site_core.proofs.CallCauses.{no_write}
 use Rattle.site_core.proofs.Turns.{ends_early, tells_end, moved_stays}
 use Rattle.round_core.specs.declared.seat.Seat.{Seat}
 use Rattle.site_core.specs.Ahead.{ahead}
@@ -31,7 +32,7 @@ returns-in-Err-clause-run g c = on_ok3 c.stop_by.result (λ e k t. ends_early g.
     c.stop_by.ensures.events c.stop_by.ensures.core c.stop_by.ensures.told
 
 pub returns-in-Err-clause-told : goal.returns-in-Err-clause-told
-returns-in-Err-clause-told g c = on_ok2 c.stop_by.result (λ e t. tells_end g.D.Device.state c.args.self.now c.stop_by.new.self c.in-Err.trouble e ℕ c.halt_now.new.bay c.stop_by.ensures.bay t c.in-Err.ensures.cause)
+returns-in-Err-clause-told g c = on_ok2 c.stop_by.result (λ e t. tells_end g.D.Device.state c.args.self.now c.stop_by.new.self c.in-Err.trouble e ℕ _ c.halt_now.new.bay c.stop_by.ensures.bay t (no_write ℕ _ _ _ c.in-Err.trouble c.in-Err.ensures.cause))
     c.stop_by.ensures.events c.stop_by.ensures.told
 
 pub returns-in-Err-clause-still : goal.returns-in-Err-clause-still
@@ -53,5 +54,5 @@ returns-in-Err-clause-lowers g c = c.stop_by.ensures.lowers (ap is_over c.requir
 pub returns-in-Err-clause-accounted : goal.returns-in-Err-clause-accounted
 returns-in-Err-clause-accounted g c = on_ok3 c.stop_by.result (λ e k t.
     let s = c.args.self.now in
-    end_told g.D.Device.state s c.stop_by.new.self c.halt_now.new.bay c.stop_by.ensures.bay ℕ c.in-Err.trouble t c.in-Err.ensures.cause e (carries_none s.core c.stop_by.new.self.core k))
+    end_told g.D.Device.state s c.stop_by.new.self c.halt_now.new.bay c.stop_by.ensures.bay ℕ _ c.in-Err.trouble t c.in-Err.ensures.cause e (carries_none s.core c.stop_by.new.self.core k))
     c.stop_by.ensures.events c.stop_by.ensures.core c.stop_by.ensures.told

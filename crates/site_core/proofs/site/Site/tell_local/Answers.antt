@@ -29,7 +29,7 @@ returns-clause-told g c =
     let n = c.requires.next in
     let s = c.args.self.now in
     let state = g.D.Device.state in
-    tells_one (IsOfRank c.args.rank) state s c.go_past.new.self (event.Local c.args.rank (n.seat.number + 1) c.args.step c.args.answer) (behind _ (c.go_past.ensures.events n.seat n.is) c.reserve.ensures.events) refl (calm_refused (states_of state s.bay) (states_of state c.go_past.new.self.bay) c.args.answer c.requires.calm)
+    tells_one (IsOfRank c.args.rank) _ state s c.go_past.new.self (event.Local c.args.rank (n.seat.number + 1) c.args.step c.args.answer) (behind _ (c.go_past.ensures.events n.seat n.is) c.reserve.ensures.events) refl (calm_refused _ (states_of state s.bay) (states_of state c.go_past.new.self.bay) c.args.answer c.requires.calm)
 
 pub returns-clause-accounted : goal.returns-clause-accounted
 returns-clause-accounted g c =

@@ -19,6 +19,12 @@ use Rattle.site_core.proofs.AheadCores.{stepped_run}
 use Rattle.site_core.proofs.InOrder.{stepped_order}
 use Rattle.site_core.specs.Follows.{carried}
 use Rattle.site_core.proofs.Accounts.{well_then, refusal_told, carries_same}
+use Rattle.std.proofs.Common.{length, sym, subst}
+use Rattle.member_store.specs.Names.{part_name}
+use Rattle.site_core.specs.Cores.{IsSpot}
+use Rattle.scr_base.specs.Bytes.{bytes_for}
+use Rattle.site_core.specs.Writes.{IsWrite}
+use Rattle.site_core.proofs.Fulls.{passes_this, file_write, step_writes, step_full}
 use Rattle.site_core.proofs.site.Site.write.Goals as goal
 
 pub end_of-end-requires : goal.end_of-end-requires
@@ -88,5 +94,31 @@ returns-clause-accounted g c = on_ok2 c.refuse_local.result (λ e k.
     let s = c.args.self.now in
     let n = c.requires.next in
     let x = e n.seat n.is in
-    refusal_told g.D.Device.state s c.refuse_local.new.self c.put_part.new.bay c.refuse_local.ensures.bay (Unit {0}) c.in-Err.trouble x.0 c.args.rank (n.seat.number + 1) (step.Write c.args.word c.args.at c.args.content) x.1 c.in-Err.ensures.cause (behind _ x.2 c.reserve.ensures.events) (carries_same s.core c.refuse_local.new.self.core (ap carried (k n.seat n.is))))
+    refusal_told g.D.Device.state s c.refuse_local.new.self c.put_part.new.bay c.refuse_local.ensures.bay (Unit {0}) _ c.in-Err.trouble x.0 c.args.rank (n.seat.number + 1) (step.Write c.args.word c.args.at c.args.content) x.1 c.in-Err.ensures.cause (behind _ x.2 c.reserve.ensures.events) (carries_same s.core c.refuse_local.new.self.core (ap carried (k n.seat n.is))))
+    c.refuse_local.ensures.events c.refuse_local.ensures.core
+
+pub returns-in-Ok-clause-full : goal.returns-in-Ok-clause-full
+returns-in-Ok-clause-full g c = λ p a k n w passes.
+    let s = c.args.self.now in
+    let rank = c.args.rank in
+    let spot = c.in-Some.spot in
+    let call = step.Write c.args.word c.args.at c.args.content in
+    let name = part_name spot.which spot.node spot.part in
+    let number = c.number_of-file.ensures.number ∙ ap (λ (x : List ℕ). place_of (rows_at s.core rank) x) c.bytes.ensures.value in
+    let f = file_write s.core rank (place_of (rows_at s.core rank) c.args.word) c.args.at (length (bytes_for c.args.content rank)) spot p n a k (subst (λ (x : ℕ). IsSpot s.core rank x spot) number c.in-Some.ensures) (step_writes s.programs s.core rank call p n a k c.requires.next w) in
+    let bytes = c.list.ensures ∙ c.in_ok-bytes.ensures in
+    absurd (c.in-Ok.ensures.fits (passes_this (states_of g.D.Device.state s.bay) spot.place name c.args.at (length c.list.result.now) p n a k (f.0, f.1, f.2, f.3 ∙ ap (λ (x : List ℕ). length x) (sym bytes)) passes))
+
+pub returns-clause-full : goal.returns-clause-full
+returns-clause-full g c = on_ok2 c.refuse_local.result (λ e core p a k n w passes.
+    let s = c.args.self.now in
+    let rank = c.args.rank in
+    let spot = c.in-Some.spot in
+    let next = c.requires.next in
+    let x = e next.seat next.is in
+    let call = step.Write c.args.word c.args.at c.args.content in
+    let name = part_name spot.which spot.node spot.part in
+    let number = c.number_of-file.ensures.number ∙ ap (λ (y : List ℕ). place_of (rows_at s.core rank) y) c.bytes.ensures.value in
+    let f = file_write s.core rank (place_of (rows_at s.core rank) c.args.word) c.args.at (length (bytes_for c.args.content rank)) spot p n a k (subst (λ (y : ℕ). IsSpot s.core rank y spot) number c.in-Some.ensures) (step_writes s.programs s.core rank call p n a k next w) in
+    step_full g.D.Device.state s c.refuse_local.new.self c.put_part.new.bay (Unit {0}) (IsWrite spot.place name c.args.at (length c.list.result.now)) p (λ q m y z this. this.0 ∙ sym f.0) c.in-Err.trouble x.0 rank (next.seat.number + 1) call x.1 c.in-Err.ensures.cause (behind _ x.2 c.reserve.ensures.events))
     c.refuse_local.ensures.events c.refuse_local.ensures.core

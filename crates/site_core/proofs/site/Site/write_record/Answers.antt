@@ -13,9 +13,19 @@ use Rattle.ckpt_model.specs.declared.event.Event.{Event}
 use Rattle.site_core.specs.Cores.{dropping_core}
 use Rattle.site_core.proofs.Telling.{on_ok}
 use Rattle.site_core.proofs.LocalSteps.{lead_on}
-use Rattle.site_core.proofs.Refusals.{told_faults}
+use Rattle.site_core.proofs.Refusals.{told_faults, refused_for}
 use Rattle.site_core.proofs.Removing.{carried_write}
 use Rattle.site_core.proofs.AheadCores.{recorded_lower, record_over}
+use Rattle.std.proofs.Common.{length, ◌+◌, ◌∙◌, inr}
+use Rattle.member_store.specs.Names.{record_name}
+use Rattle.member_store.specs.Members.{member_body}
+use Rattle.scr_base.specs.declared.actor.Actor.TheVariants as actor
+use Rattle.scr_base.specs.declared.answers.Reply.TheVariants as reply
+use Rattle.node_device.specs.Rack.{Rack}
+use Rattle.site_core.specs.Writes.{IsWrite, MayWrite}
+use Rattle.site_core.specs.Follows.{carried, IsRefusedFor}
+use Rattle.site_core.proofs.CallCauses.{cause_by}
+use Rattle.site_core.proofs.Fulls.{passes_this, to_record_write, record_to_write, carry_full}
 use Rattle.site_core.proofs.site.Site.write_record.Goals as goal
 
 pub returns-in-Ok-clause-run : goal.returns-in-Ok-clause-run
@@ -51,3 +61,37 @@ returns-in-Ok-clause-lowers g c = recorded_lower c.args.self.now.core c.args.sel
 
 pub returns-in-Err-clause-lowers : goal.returns-in-Err-clause-lowers
 returns-in-Err-clause-lowers g c = c.carry.ensures.lowers (record_over c.args.self.now.core c.args.node c.in-Some-opened.m c.requires.stage c.in-Some-opened.is)
+
+pub returns-in-Ok-clause-full : goal.returns-in-Ok-clause-full
+returns-in-Ok-clause-full g c = λ p a k n w passes.
+    let s = c.args.self.now in
+    let m = c.in-Some-opened.m in
+    let node = c.args.node in
+    let this = to_record_write s.core node c.in-Some.place m p n a k c.requires.stage (sym c.in-Some.ensures.place) c.in-Some-opened.is w in
+    absurd (c.in-Ok.ensures.fits (passes_this (states_of g.D.Device.state s.bay) c.in-Some.place (record_name m.desc.which node) 8 (8 + length (member_body m.desc node m.files)) p n a k this passes))
+
+pub returns-in-Err-clause-full : goal.returns-in-Err-clause-full
+returns-in-Err-clause-full g c = on_ok c.carry.result (λ x p a k n w passes.
+    let s = c.args.self.now in
+    let m = c.in-Some-opened.m in
+    let node = c.args.node in
+    let this = to_record_write s.core node c.in-Some.place m p n a k c.requires.stage (sym c.in-Some.ensures.place) c.in-Some-opened.is w in
+    carry_full g.D.Device.state s c.carry.new.self c.put_member.new.bay (Unit {0}) (IsWrite c.in-Some.place (record_name m.desc.which node) 8 (8 + length (member_body m.desc node m.files))) p (λ q y z v one. one.0 ∙ sym this.0) c.in-Err.trouble x.0 x.1 c.in-Err.ensures.cause c.requires.free (ap carried x.2))
+    c.carry.ensures.core
+
+pub returns-in-Err-clause-accounted : goal.returns-in-Err-clause-accounted
+returns-in-Err-clause-accounted g c = on_ok c.carry.result (λ x.
+    let s = c.args.self.now in
+    let old = states_of g.D.Device.state s.bay in
+    let m = c.in-Some-opened.m in
+    let node = c.args.node in
+    let may = MayWrite actor.Encoder s.programs s.core in
+    let why = cause_by (Unit {0}) (IsWrite c.in-Some.place (record_name m.desc.which node) 8 (8 + length (member_body m.desc node m.files))) may (λ p n a k this. record_to_write s.core node c.in-Some.place m p n a k c.requires.stage c.requires.asked (sym c.in-Some.ensures.place) c.in-Some-opened.is this) old (states_of g.D.Device.state c.put_member.new.bay) c.in-Err.trouble c.in-Err.ensures.cause in
+    inr (record {
+      refusal = x.0;
+      none = c.requires.free;
+      now = ap carried x.2;
+      of_device = told_faults c.in-Err.trouble x.0 x.1;
+      cause = subst (λ (b : Rack _). IsRefusedFor may old (states_of g.D.Device.state b) (reply.Refused x.0)) (sym c.carry.ensures.bay) (refused_for (Unit {0}) may old (states_of g.D.Device.state c.put_member.new.bay) c.in-Err.trouble x.0 x.1 why);
+    }))
+    c.carry.ensures.core

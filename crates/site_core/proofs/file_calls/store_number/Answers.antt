@@ -1,0 +1,29 @@
+use Rattle.std.proofs.Common.{◌∙◌, subst, ℕ, codes, Err}
+use Rattle.node_device.specs.declared.device.DevError.{DevError}
+use Rattle.node_device.specs.Rack.{states_of}
+use Rattle.gated_record.specs.PairSteps.{StepsPair}
+use Rattle.site_core.specs.Writes.{PassesOn}
+use Rattle.site_core.proofs.CallCauses.{alike_use, calm_at}
+use Rattle.site_core.proofs.Fits.{way_fits, way_full}
+use Rattle.site_core.proofs.file_calls.store_number.Goals as goal
+
+pub returns-in-Ok-clause-fits : goal.returns-in-Ok-clause-fits
+returns-in-Ok-clause-fits g c = λ p at count name writes passes.
+    let old = states_of g.D.Device.state c.args.bay.now in
+    let new = states_of g.D.Device.state c.step_number.new.bay in
+    let way = c.args.storing.now in
+    way_fits way.want c.step_number.new.storing.changes (old 32) (new 32) c.in-Ok.over way.changes c.in-Ok.ensures.steps.here name at count writes.1 (subst (λ (x : ℕ). PassesOn old x name at count) writes.0 passes)
+
+pub returns-in-Err-Full-clause-cause : goal.returns-in-Err-Full-clause-cause
+returns-in-Err-Full-clause-cause g c =
+    let old = states_of g.D.Device.state c.args.bay.now in
+    let new = states_of g.D.Device.state c.step_number.new.bay in
+    let way = c.args.storing.now in
+    let w = subst (λ (e : DevError). StepsPair (codes "run") way.want (Err e) way.changes c.step_number.new.storing.changes (old 32) (new 32)) c.in-Err-Full.field-0-is c.in-Err-Full.ensures.steps.here in
+    let kept = alike_use (old 32) (new 32) w.alike in
+    record {
+      used_is = c.used_at-used.ensures;
+      capacity_is = c.capacity_at.ensures ∙ kept.capacity;
+      passes = way_full way.want c.step_number.new.storing.changes (old 32) (new 32) way.changes w;
+      calm = calm_at 32 old new c.in-Err-Full.ensures.steps.others w.cause;
+    }
