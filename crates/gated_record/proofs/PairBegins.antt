@@ -1,6 +1,6 @@
 -- The beginning of a pair's way, from what was found.
 use Rattle.std.proofs.Common.{◌≡◌, ◌≢◌, inl, inr, ◌<◌, ◌≤◌, ◌+◌, ◌-◌, ◌%◌, ◌^◌, ℕ, zero, suc, Bool, true, false, List, [], ◌∷◌, ◌++◌, length, Option, None, Some, refl, sym, ◌∙◌, ap, subst, arith, append_assoc}
-use Rattle.std.specs.Prelude.{All, if◌then◌else◌, nat_lt, Result, Ok, Err, IsSomeAnd, unwrap_or, OnOk, OnErr, is_none}
+use Rattle.std.specs.Prelude.{All, Contains, if◌then◌else◌, nat_lt, Result, Ok, Err, IsSomeAnd, unwrap_or, OnOk, OnErr, is_none}
 use Rattle.std.proofs.lemmas.Bool.{ltb-true, ltb-false}
 use Rattle.std.proofs.lemmas.Bool.Decides.{eqb_tells}
 use Rattle.std.proofs.lemmas.List.Elements.{All-append, All-cons, All-nil, All-tail}
@@ -13,12 +13,13 @@ use Rattle.node_device.specs.Answers.{HasDeviceCause, NamesAnswers}
 use Rattle.node_device.specs.declared.device.DevError.{DevError}
 use Rattle.node_device.specs.declared.device.DevError.TheVariants.{Failed, Full, NoFile, Range, Memory}
 use Rattle.gated_record.specs.Pair.{value_in, copy_name, pair_body, copy_of, next_version, MayFollow, newer}
-use Rattle.gated_record.specs.PairStages.{PairLeaves, IsOldOrWanted, HasGate, Opened, Closing, IsOnWay, IsPairStage, IsCopyName, IsChangeOf, IsStageOf, MayBegin, closings, ending, value_by, IsBelow, open_from}
-use Rattle.gated_record.specs.PairSteps.{Finds, MayStep, StepMade, PairAnswers, StepAnswers, StepsPair}
+use Rattle.gated_record.specs.PairStages.{PairLeaves, IsOldOrWanted, HasGate, Opened, Closing, IsOnWay, IsPairStage, IsCopyName, IsChangeOf, IsStageOf, IsToWrite, MayBegin, closings, ending, value_by, IsBelow, open_from}
+use Rattle.gated_record.specs.PairSteps.{Finds, MayStep, StepMade, PairAnswers, StepAnswers, KeepsRoom, StepsPair}
 use Rattle.gated_record.specs.declared.pair.PairValue.{PairValue}
 use Rattle.gated_record.proofs.Plans.{open_within}
 use Rattle.gated_record.proofs.Copies.{in_its_copy, by_one}
 use Rattle.gated_record.proofs.PairWay.{copies_by_leaves}
+use Rattle.gated_record.proofs.PairRooms.{opened_none, closing_has}
 use Rattle.gated_record.proofs.PairSteps.{unchanged_pair, unchanged_alike, is_copy_name, may_step, steps_ok, steps_err}
 
 -- the version that is next belongs in the other copy
@@ -156,6 +157,14 @@ closings_first : (name : List ℕ) (gates : List ℕ) (more : List Change) (n : 
 closings_first name [] more n is = cc is
 closings_first name (k ∷ gates) more n is = cc is
 
+-- where the wanted value doesn't stand
+finds_filling : (stem : List ℕ) (copy : ℕ) (want : PairValue) (d : DeviceState) (changes : List Change) (finds : Finds stem copy want d changes) (is : finds.begins.stands ≡ false)
+    → changes ≡ closings (copy_name stem copy) (open_from 0 (finds.begins.closes is).front) ++ Sync ∷ Write (copy_name stem copy) ∷ Sync ∷ Open (copy_name stem copy) 0 ∷ Sync ∷ ending (copy_name stem (1 - copy)) finds.gate
+finds_filling stem copy want d changes finds is =
+    let closes = finds.begins.closes is in
+    finds.changes_are ∙ ap (λ (l : List Change). l ++ Sync ∷ ending (copy_name stem (1 - copy)) finds.gate) (finds.begins.filling is ∙ ap (λ (l : List Change). l ++ Sync ∷ Write (copy_name stem copy) ∷ Sync ∷ Open (copy_name stem copy) 0 ∷ []) closes.changes_are)
+    ∙ append_assoc (closings (copy_name stem copy) (open_from 0 closes.front)) (Sync ∷ Write (copy_name stem copy) ∷ Sync ∷ Open (copy_name stem copy) 0 ∷ []) (Sync ∷ ending (copy_name stem (1 - copy)) finds.gate)
+
 pub first_no_write : (stem : List ℕ) (copy : ℕ) (want : PairValue) (d : DeviceState) (changes : List Change) → Finds stem copy want d changes → (n : List ℕ) → next_of (Some changes) ≢ Some (Write n)
 first_no_write stem copy want d changes finds n = by_stands finds.begins.stands refl
   where
@@ -163,10 +172,39 @@ first_no_write stem copy want d changes finds n = by_stands finds.begins.stands 
     by_stands true is next = absurd (let first : next_of (Some changes) ≡ Some Sync = ap (λ (l : List Change). next_of (Some l)) (finds.changes_are ∙ ap (λ (l : List Change). l ++ Sync ∷ ending (copy_name stem (1 - copy)) finds.gate) (finds.begins.none is)) in cc (first, next))
     by_stands false is next =
         let closes = finds.begins.closes is in
-        let are : changes ≡ closings (copy_name stem copy) (open_from 0 closes.front) ++ Sync ∷ Write (copy_name stem copy) ∷ Sync ∷ Open (copy_name stem copy) 0 ∷ Sync ∷ ending (copy_name stem (1 - copy)) finds.gate =
-        finds.changes_are ∙ ap (λ (l : List Change). l ++ Sync ∷ ending (copy_name stem (1 - copy)) finds.gate) (finds.begins.filling is ∙ ap (λ (l : List Change). l ++ Sync ∷ Write (copy_name stem copy) ∷ Sync ∷ Open (copy_name stem copy) 0 ∷ []) closes.changes_are)
-        ∙ append_assoc (closings (copy_name stem copy) (open_from 0 closes.front)) (Sync ∷ Write (copy_name stem copy) ∷ Sync ∷ Open (copy_name stem copy) 0 ∷ []) (Sync ∷ ending (copy_name stem (1 - copy)) finds.gate) in
-        closings_first (copy_name stem copy) (open_from 0 closes.front) (Write (copy_name stem copy) ∷ Sync ∷ Open (copy_name stem copy) 0 ∷ Sync ∷ ending (copy_name stem (1 - copy)) finds.gate) n (ap (λ (l : List Change). next_of (Some l)) (sym are) ∙ next)
+        closings_first (copy_name stem copy) (open_from 0 closes.front) (Write (copy_name stem copy) ∷ Sync ∷ Open (copy_name stem copy) 0 ∷ Sync ∷ ending (copy_name stem (1 - copy)) finds.gate) n (ap (λ (l : List Change). next_of (Some l)) (sym (finds_filling stem copy want d changes finds is)) ∙ next)
+
+-- the body's write is among the changes that were found exactly where the wanted value doesn't stand
+module _ (stem : List ℕ) (want : PairValue) (d : DeviceState) (changes : List Change) (finds : Finds stem (copy_of want) want d changes) (tells : d.tells ≡ true) where
+  abbrev own : List ℕ
+  own = copy_name stem (copy_of want)
+
+  found_left : IsToWrite stem want d (Some changes) → IsToWrite stem want d None
+  found_left has = by_stands finds.begins.stands refl
+    where
+      by_stands : (b : Bool) → finds.begins.stands ≡ b → IsToWrite stem want d None
+      by_stands true is = absurd (opened_none own (copy_name stem (1 - copy_of want)) own finds.gate
+          (subst (λ (l : List Change). Contains l (Write own)) (finds.changes_are ∙ ap (λ (l : List Change). l ++ Sync ∷ ending (copy_name stem (1 - copy_of want)) finds.gate) (finds.begins.none is)) has))
+      by_stands false is = finds.begins.unwanted tells is
+
+  found_has : IsToWrite stem want d None → IsToWrite stem want d (Some changes)
+  found_has missing = by_stands finds.begins.stands refl
+    where
+      by_stands : (b : Bool) → finds.begins.stands ≡ b → IsToWrite stem want d (Some changes)
+      by_stands true is = absurd (missing (finds.begins.wanted tells is))
+      by_stands false is =
+          let closes = finds.begins.closes is in
+          subst (λ (l : List Change). Contains l (Write own)) (sym (finds_filling stem (copy_of want) want d changes finds is))
+          (closing_has own (open_from 0 closes.front) (Sync ∷ Open own 0 ∷ Sync ∷ ending (copy_name stem (1 - copy_of want)) finds.gate))
+
+  found_room : (e : DeviceState) (after : Option (List Change)) → KeepsRoom stem want (Some changes) after d e → KeepsRoom stem want None after d e
+  found_room e after room = record {
+    left = λ still. let both = room.left still in (found_left both.0, both.1);
+    gone = λ no. elim (room.gone no) [
+      | inl none ↦ inl (λ missing. none (found_has missing))
+      | inr next ↦ absurd (first_no_write stem (copy_of want) want d changes finds own next)
+    ];
+  }
 
 -- a first call is a step of the stage that begins with what was found
 pub first_call : (stem : List ℕ) (want : PairValue) (d e : DeviceState) (changes : List Change) (result : Result Bool DevError) (after late : Option (List Change)) → IsSound d → Finds stem (copy_of want) want d changes → left (Some changes) < 2 ^ 64
@@ -175,6 +213,7 @@ first_call stem want d e changes (Ok over) after late sound finds few steps same
   answer = λ n is. absurd (cc is);
   exact = λ value may n is. absurd (cc is);
   goes = λ value may. let gone = steps.goes value (begun stem value want d changes sound finds may) in record { leaves = gone.leaves; stage = subst (λ (x : Option (List Change)). IsPairStage stem value want e x) (sym same) gone.stage };
+  room = λ value may tells. subst (λ (x : Option (List Change)). KeepsRoom stem want None x d e) (sym same) (found_room stem want d changes finds tells e after (steps.room value (begun stem value want d changes sound finds may) tells));
   made = λ changes is. absurd (cc is);
   passed = λ changes is. absurd (cc is);
   stage = subst (IsStageOf stem) (sym same) steps.stage;
@@ -191,6 +230,7 @@ first_call stem want d e changes (Err fault) after late sound finds few steps sa
   answer = pair_fault fault steps.answer;
   exact = λ value may. by_fault fault (steps.exact value (begun stem value want d changes sound finds may));
   goes = λ value may. let gone = steps.goes value (begun stem value want d changes sound finds may) in record { leaves = gone.leaves; stage = tt };
+  room = λ value may tells. tt;
   made = λ changes is. absurd (cc is);
   passed = λ changes is. absurd (cc is);
   stage = subst (IsStageOf stem) (sym none) tt;
@@ -257,6 +297,7 @@ unbegun X stem want d e None fault none same answer cause = record {
   answer = pair_fault fault answer;
   exact = λ value may. by_fault fault answer;
   goes = λ value may. record { leaves = λ tells. leaves value may tells; stage = tt };
+  room = λ value may tells. tt;
   made = λ changes is. absurd (cc is);
   passed = λ changes is. absurd (cc is);
   stage = tt;

@@ -10,11 +10,12 @@ use Rattle.node_device.specs.declared.device.DevError.{DevError}
 use Rattle.node_device.specs.declared.device.DevError.TheVariants.{Failed, Full, NoFile, Range, Memory}
 use Rattle.gated_record.specs.Pair.{value_in, copy_name, pair_body, pair_now, copy_of}
 use Rattle.gated_record.specs.PairStages.{PairLeaves, IsOldOrWanted, IsStageOf, Phase, Closing, Filling, Filled, Ready, Opened, Standing, Closed, Over, PhaseHolds, FillingHolds, IsOnWay, IsPairStage, changes_at, value_by}
-use Rattle.gated_record.specs.PairSteps.{PairAnswers, StepAnswers, StepMade, StepsPair, Goes, PairStands, bare}
+use Rattle.gated_record.specs.PairSteps.{PairAnswers, StepAnswers, StepMade, StepsPair, Goes, PairStands, KeepsRoom, bare}
 use Rattle.gated_record.specs.PairNext.{version_after, following, IsNextStage, GoesOn, StepsNext}
 use Rattle.gated_record.specs.declared.pair.PairValue.{PairValue}
 use Rattle.gated_record.proofs.Copies.{by_none}
 use Rattle.gated_record.proofs.PairWay.{leaves_by_copies, shut_no_value, below_either, shut_either, standing_either}
+use Rattle.gated_record.proofs.PairRooms.{keeps_room}
 use Rattle.gated_record.proofs.PairSteps.{answers, step_goes, stands_after, come_either, unchanged_pair, unchanged_alike}
 use Rattle.gated_record.proofs.PairBegins.{after_calls}
 
@@ -88,6 +89,7 @@ module _ (stem payload : List ℕ) (value standing : Option PairValue) (d e : De
         exact = step.exact value may;
         leaves = gone.leaves (step.only.tells ∙ tells);
         stage = next_stage stem payload value e result after (subst (λ (s : Option PairValue). version_after s < 2 ^ 32) same fits) gone.stage;
+        room = step.room value may tells;
         stands = told_stands result (step.stands value may);
       }
     where
@@ -110,12 +112,15 @@ module _ (stem payload : List ℕ) (value standing : Option PairValue) (d e : De
           exact = step_answer stem (following value payload) (Some changes) d (Ok over) (exact (Ok (tt {0})) (steps.made changes refl));
           leaves = went.leaves told;
           stage = next_stage stem payload value e (Ok over) after stage.1 (subst (λ (x : Option (List Change)). IsPairStage stem value (following value payload) e x) (sym (steps.passed changes refl)) went.stage);
+          room = subst (λ (x : Option (List Change)). KeepsRoom stem (following value payload) (Some changes) x d e) (sym (steps.passed changes refl))
+              (keeps_room stem value (following value payload) d e changes stage.0 (made_again stem payload value standing d e sound tells (Ok (tt {0})) is changes stage.0 (steps.made changes refl)));
           stands = λ is_true. stands_after stem (following value payload) (from_one value) stage.1 value e changes went.stage (ap is_over (sym (steps.passed changes refl)) ∙ sym steps.over ∙ is_true) told;
         }
     later (Err fault) after steps = record {
       exact = step_answer stem (following value payload) (Some changes) d (Err fault) (exact (Err fault) (steps.made changes refl));
       leaves = (gone (Err fault) (steps.made changes refl)).leaves (steps.only.tells ∙ tells);
       stage = tt;
+      room = tt;
       stands = tt;
     }
 
@@ -171,7 +176,7 @@ stage_leaves stem payload value d (Some changes) tells is = way_leaves stem valu
 pub unstepped : (X : Type 0) (stem payload : List ℕ) (c d : DeviceState) (stage : Option (List Change)) (fault : DevError) → IsSound c → IsStageOf stem stage → IsUnchanged c d → NamesAnswers {T = X} (Err fault) → HasDeviceCause {T = X} c d (Err fault) → StepsNext stem payload (Err fault) stage stage c d
 unstepped X stem payload c d stage fault sound of_pair same answer cause = record {
   answer = pair_fault fault answer;
-  goes_on = λ tells value is. record { exact = step_fault value fault answer; leaves = subst (λ (s : DeviceState). PairLeaves stem s (IsOldOrWanted value (following value payload))) (sym same) (stage_leaves stem payload value c stage tells is); stage = tt; stands = tt };
+  goes_on = λ tells value is. record { exact = step_fault value fault answer; leaves = subst (λ (s : DeviceState). PairLeaves stem s (IsOldOrWanted value (following value payload))) (sym same) (stage_leaves stem payload value c stage tells is); stage = tt; room = tt; stands = tt };
   stage = of_pair;
   over = tt;
   fewer = tt;

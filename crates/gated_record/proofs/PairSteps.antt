@@ -18,11 +18,12 @@ use Rattle.gated_record.specs.Changes.{MayMake, Makes}
 use Rattle.gated_record.specs.Frames.{ChangesPair, IsNoWorse}
 use Rattle.gated_record.specs.Pair.{value_in, copy_name, pair_body, copy_of}
 use Rattle.gated_record.specs.PairStages.{PairLeaves, IsOldOrWanted, IsCopyName, IsChangeOf, HasGate, HasGates, Phase, Closing, Filling, Filled, Ready, Opened, Standing, Closed, Over, PhaseHolds, IsOnWay, IsPairStage, IsStageOf, changes_at, ending, value_by, HasCome}
-use Rattle.gated_record.specs.PairSteps.{MayStep, StepMade, PairAnswers, StepAnswers, Goes, PairStands, StepsPair}
+use Rattle.gated_record.specs.PairSteps.{MayStep, StepMade, PairAnswers, StepAnswers, Goes, PairStands, KeepsRoom, StepsPair}
 use Rattle.gated_record.specs.declared.pair.PairValue.{PairValue}
 use Rattle.gated_record.proofs.Copies.{newer_none}
 use Rattle.gated_record.proofs.PairWay.{leaves_by_copies, shut_no_value}
 use Rattle.gated_record.proofs.PairGoes.{goes}
+use Rattle.gated_record.proofs.PairRooms.{keeps_room}
 
 -- ## the change that comes next
 
@@ -348,6 +349,7 @@ module _ (stem : List ℕ) (want : PairValue) (above : 1 ≤ want.version) (fits
         answer = known.0;
         exact = λ value way. answers stem value want d e (Ok (tt {0})) changes way made;
         goes = λ value way. let gone = went value way in record { leaves = gone.leaves; stage = subst (λ (x : Option (List Change)). IsPairStage stem value want e x) (sym after_is) gone.stage };
+        room = λ value way tells. subst (λ (x : Option (List Change)). KeepsRoom stem want (Some changes) x d e) (sym after_is) (keeps_room stem value want d e changes way made);
         made = λ cs is. made_of d e (Ok (tt {0})) changes cs is made;
         passed = λ cs is. after_is;
         stage = subst (IsStageOf stem) (sym after_is) (all_passed changes all);
@@ -370,6 +372,7 @@ module _ (stem : List ℕ) (want : PairValue) (above : 1 ≤ want.version) (fits
         answer = pair_err fault known.0;
         exact = λ value way. step_err fault (answers stem value want d e (Err fault) changes way made);
         goes = λ value way. record { leaves = (went value way).leaves; stage = tt };
+        room = λ value way tells. tt;
         made = λ cs is. made_of d e (Err fault) changes cs is made;
         passed = λ cs is. tt;
         stage = subst (IsStageOf stem) (sym same) all;

@@ -11,6 +11,10 @@ pub record IsNoWorse (f g : File) : Type 0 where
   pub outcomes : (o : Option (List ℕ)) → MayLeave g o → MayLeave f o
   pub touched : (k : ℕ) → g.touched k ≡ true → f.touched k ≡ true
 
+-- each file has the length that it had
+abbrev pub KeepsLengths : DeviceState → DeviceState → Type 0
+KeepsLengths old new = (q : List ℕ) → (new.file q).len ≡ (old.file q).len
+
 -- No file but a pair's is changed, though a sync may have made others stable.
 pub record ChangesPair (stem : List ℕ) (old new : DeviceState) : Type 0 where
   pub tells : new.tells ≡ old.tells

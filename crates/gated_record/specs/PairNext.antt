@@ -9,7 +9,7 @@ use Rattle.node_device.specs.declared.device.DevError.{DevError}
 use Rattle.gated_record.specs.Frames.{ChangesPair}
 use Rattle.gated_record.specs.Pair.{next_version, copy_name}
 use Rattle.gated_record.specs.PairStages.{PairLeaves, IsOldOrWanted, IsPairStage, IsStageOf}
-use Rattle.gated_record.specs.PairSteps.{PairAnswers, StepAnswers, PairStands}
+use Rattle.gated_record.specs.PairSteps.{PairAnswers, StepAnswers, PairStands, KeepsRoom}
 use Rattle.gated_record.specs.declared.pair.PairValue.{PairValue}
 
 -- the version after that of a standing value, and 1 where none stands
@@ -27,11 +27,12 @@ IsNextStage stem old payload d None = IsPairStage stem old (following old payloa
 IsNextStage stem old payload d (Some changes) = IsPairStage stem old (following old payload) d (Some changes) × (version_after old < 2 ^ 32)
 
 -- What a step does whose stage is one of the way from an old value: whatever a stop leaves, the old value stands or the
--- payload in the next version; and what is left after a step that was made.
+-- payload in the next version; and what is left after a step that was made, with the room for the payload.
 pub record GoesOn (stem : List ℕ) (old : Option PairValue) (payload : List ℕ) (result : Result Bool DevError) (before after : Option (List Change)) (d e : DeviceState) : Type 0 where
   pub exact : StepAnswers stem (following old payload) before d result
   pub leaves : PairLeaves stem e (IsOldOrWanted old (following old payload))
   pub stage : OnOk result (IsNextStage stem old payload e after)
+  pub room : OnOk result (KeepsRoom stem (following old payload) before after d e)
   pub stands : IfOk result (λ over. over ≡ true → PairStands stem (following old payload) e)
 
 -- One call of a pair's step to a payload, whole: its answer, the stage before and after, and the state before and after.

@@ -10,9 +10,9 @@ use Rattle.node_device.specs.declared.device.DevError.{DevError}
 use Rattle.node_device.specs.declared.device.DevError.TheVariants.{Failed, Full, Memory}
 use Rattle.gated_record.specs.Record.{is_open}
 use Rattle.gated_record.specs.Changes.{MayMake, Makes}
-use Rattle.gated_record.specs.Frames.{ChangesPair}
+use Rattle.gated_record.specs.Frames.{ChangesPair, KeepsLengths}
 use Rattle.gated_record.specs.Pair.{value_in, copy_name, pair_body, copy_of}
-use Rattle.gated_record.specs.PairStages.{PairLeaves, IsOldOrWanted, IsPairStage, IsCopyName, IsStageOf, HasCome, HasGate, closings, ending, open_from}
+use Rattle.gated_record.specs.PairStages.{PairLeaves, IsOldOrWanted, IsPairStage, IsCopyName, IsStageOf, HasCome, HasGate, IsToWrite, closings, ending, open_from}
 use Rattle.gated_record.specs.declared.pair.PairValue.{PairValue}
 
 -- the changes that close the open gates of a file, as these bytes of its front tell them
@@ -82,12 +82,19 @@ abbrev pub bare : {T : Type 0} → Result T DevError → Result (Unit {0}) DevEr
 bare (Ok x) = Ok (tt {0})
 bare (Err fault) = Err fault
 
+-- What a step that was made leaves of the room for the body: where that is still to be written, it was before, and no length
+-- is another; where it is to be written no longer, it wasn't before, or its write came next.
+pub record KeepsRoom (stem : List ℕ) (want : PairValue) (before after : Option (List Change)) (old new : DeviceState) : Type 0 where
+  pub left : IsToWrite stem want new after → IsToWrite stem want old before × KeepsLengths old new
+  pub gone : ¬ IsToWrite stem want new after → (¬ IsToWrite stem want old before) ⊎ (next_of before ≡ Some (Write (copy_name stem (copy_of want))))
+
 -- One call of a pair's step, whole: its answer, the stage before and after, and the state before and after. What is said
 -- of each value holds where the stage is one of the way from it.
 pub record StepsPair (stem : List ℕ) (want : PairValue) (result : Result Bool DevError) (before after : Option (List Change)) (old new : DeviceState) : Type 0 where
   pub answer : PairAnswers stem want before old result
   pub exact : (value : Option PairValue) → IsPairStage stem value want old before → StepAnswers stem want before old result
   pub goes : (value : Option PairValue) → IsPairStage stem value want old before → Goes stem value want result after new
+  pub room : (value : Option PairValue) → IsPairStage stem value want old before → old.tells ≡ true → OnOk result (KeepsRoom stem want before after old new)
   pub made : (changes : List Change) → before ≡ Some changes → StepMade (Some changes) (pair_body want) (bare result) old new
   pub passed : (changes : List Change) → before ≡ Some changes → OnOk result (after ≡ passed before)
   pub stage : IsStageOf stem after
