@@ -12,7 +12,7 @@ use Rattle.gated_record.specs.Pair.{copy_name}
 use Rattle.halt_file.specs.Conditions.{conditions}
 use Rattle.halt_file.specs.Stores.{halt_now, HaltLeaves}
 use Rattle.halt_file.specs.declared.halt.Halt.{Halt as HaltFile}
-use Rattle.admin.specs.Causes.{wanted, IsReady, HaltCause}
+use Rattle.admin.specs.Causes.{wanted, IsReady, BodyPasses, HaltCause}
 use Rattle.admin.specs.declared.answer.Answer.{Answer}
 use Rattle.admin.specs.declared.answer.Answer.TheVariants.{Done}
 
@@ -34,6 +34,7 @@ RestsBeside old new = (q : List ℕ) → q ≢ copy_name (codes "halt") 0 → q 
 -- One command, whole: its answer, the state before and the state after.
 pub record SetsHalt (word : Option HaltWord) (result : Result Answer Memory) (old new : DeviceState) : Type 0 where
   pub done : IsReady old → result ≡ Ok Done → Keeps (wanted word old) new
+  pub fits : IsReady old → result ≡ Ok Done → ¬ BodyPasses (wanted word old) old
   pub leaves : IsReady old → HaltLeaves new (IsOldOrWanted word old)
   pub cause : HaltCause word old new result
   pub only : ChangesPair (codes "halt") old new

@@ -10,7 +10,8 @@ use scr_base::Memory;
 use std::alloc::Global;
 
 /// Runs a command on the halt conditions, to its end. After another answer than `Done` a stop of all devices leaves the
-/// conditions of before or the wanted ones, and every other file as before.
+/// conditions of before or the wanted ones, and every other file as before. Where nothing was pending, `Full` comes only where
+/// the write of the record's body passes the capacity, and `Done` never there.
 pub fn run_command<D: Device>(
     alloc: Global,
     bay: &mut Bay<D>,

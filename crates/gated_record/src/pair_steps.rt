@@ -215,8 +215,8 @@ fn step<D: Device>(
 /// first; a sync; its body is written; a sync; its gate 0 is opened; a sync; the other copy's gate 0 is closed where it is
 /// open; a sync. A stage serves one pair and one wanted value alone. Where nothing else changed the pair's files since the
 /// stage was new, and every stop would have left the old value then: whatever a stop leaves, the old value stands or the
-/// wanted one, and at the end the wanted value stands, stable, and the other copy is shut, stable. `Failed`; `Full` where a
-/// write passes the capacity, there exactly that of the body; `Memory`.
+/// wanted one, and at the end the wanted value stands, stable, and the other copy is shut, stable; until the body is written,
+/// each file keeps its length. `Failed`; `Full` where a write passes the capacity, there exactly that of the body; `Memory`.
 pub fn pair_step<D: Device>(
     alloc: Global,
     dev: &mut D,

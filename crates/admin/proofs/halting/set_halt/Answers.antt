@@ -18,12 +18,12 @@ loop-over-init g c =
 pub loop-over-preserved : goal.loop-over-preserved
 loop-over-preserved g c =
     let way = subst (λ b. IsOnWay (option_copied c.args.word) (conditions c.in-Ok.want) c.loop-over.stage b (g.D.Device.state c.args.dev.now) (g.D.Device.state c.loop-over.dev)) c.loop-over-test.true c.loop-over.invariant in
-    stepped (option_copied c.args.word) (conditions c.in-Ok.want) c.loop-over.stage c.store_step.new.stage (g.D.Device.state c.args.dev.now) (g.D.Device.state c.loop-over.dev) (g.D.Device.state c.store_step.new.dev) way c.in-Ok-store_step.done c.in-Ok-store_step.ensures
+    stepped (option_copied c.args.word) (conditions c.in-Ok.want) c.loop-over.stage c.store_step.new.stage (g.D.Device.state c.args.dev.now) (g.D.Device.state c.loop-over.dev) (g.D.Device.state c.store_step.new.dev) way c.in-Ok-store_step.done (g.met.D.Device.sound c.args.dev.now) (g.met.D.Device.sound c.loop-over.dev) c.in-Ok-store_step.ensures
 
 pub returns-in-Err-store_step : goal.returns-in-Err-store_step
 returns-in-Err-store_step g c =
     let way = subst (λ b. IsOnWay (option_copied c.args.word) (conditions c.in-Ok.want) c.loop-over.stage b (g.D.Device.state c.args.dev.now) (g.D.Device.state c.loop-over.dev)) c.loop-over-test.true c.loop-over.invariant in
-    refused (option_copied c.args.word) (conditions c.in-Ok.want) c.loop-over.stage c.store_step.new.stage (g.D.Device.state c.args.dev.now) (g.D.Device.state c.loop-over.dev) (g.D.Device.state c.store_step.new.dev) way c.in-Err-store_step.fault c.refusal-in-Err-store_step.result c.refusal-in-Err-store_step.ensures c.in-Err-store_step.ensures
+    refused (option_copied c.args.word) (conditions c.in-Ok.want) c.loop-over.stage c.store_step.new.stage (g.D.Device.state c.args.dev.now) (g.D.Device.state c.loop-over.dev) (g.D.Device.state c.store_step.new.dev) way (g.met.D.Device.sound c.args.dev.now) (g.met.D.Device.sound c.loop-over.dev) c.in-Err-store_step.fault c.refusal-in-Err-store_step.result c.refusal-in-Err-store_step.ensures c.in-Err-store_step.ensures
 
 pub returns : goal.returns
 returns g c =
