@@ -1,9 +1,12 @@
-ghost use Rattle.std.specs.Prelude.{◌≡◌, ℕ, List};
+ghost use Rattle.std.specs.Prelude.{◌≡◌, ◌==◌, ◌<◌, ℕ, List, filter, length, map};
+ghost use Rattle.scr_base.specs.declared.shape.Scheme.{Scheme};
 ghost use Rattle.partner_copy.specs.declared.Held.{Held};
-ghost use Rattle.member_shares.specs.Shares.{IsMember, AreBytes};
+ghost use Rattle.member_shares.specs.Shares.{IsMember, IsSet, AreBytes};
 ghost use Rattle.commit_core.specs.Deposits.{IsPiece, AreInputsOf, IsPartAt, place_of};
+ghost use Rattle.commit_core.specs.Pieces.{pieces_of_member, pieces_of_set, place_of_piece, FollowOn};
 ghost use Rattle.commit_core.specs.declared.claim.Claim.{Claim};
 ghost use Rattle.commit_core.specs.declared.deposit.Deposit.{Deposit};
+ghost use Rattle.commit_core.specs.declared.piece.Piece.{Piece};
 
 /// Where a claim's inputs are parts of what the members with these streams have in its stripe, a deposit for it is a
 /// part of what the target keeps for them, at a place that the claim tells. No two pieces answer one claim. For the
@@ -12,4 +15,16 @@ pub fn deposits_are_shares()
     ensures parts { (deposit : Deposit) (streams : List (List ℕ)) (held : Held) → AreInputsOf deposit.claim streams → IsMember deposit.claim.scheme streams deposit.claim.target held
         → IsPartAt (place_of deposit.claim streams) held.share deposit.bytes }
     ensures one { (claim : Claim) (xs ys : List ℕ) → AreBytes claim.inputs → IsPiece claim xs → IsPiece claim ys → xs ≡ ys }
+{}
+
+/// The pieces of a set that have one target, in their order, are those that this member keeps; they tile what it keeps:
+/// each stands where the one before ends, from the first byte to the last. A piece stands where a claim of its target,
+/// stripe and place tells. For the crates above. It does nothing.
+pub fn pieces_are_kept()
+    ensures own { (scheme : Scheme) (local group i : ℕ) (lengths : List ℕ) → i < length lengths
+        → filter (λ piece. piece.target == i) (pieces_of_set scheme local group lengths) ≡ pieces_of_member scheme local group lengths i }
+    ensures tile { (scheme : Scheme) (local group i : ℕ) (streams : List (List ℕ)) (held : Held) → IsSet scheme (length streams) → i < length streams → IsMember scheme streams i held
+        → FollowOn (place_of_piece scheme streams) 0 (length held.share) (pieces_of_member scheme local group (map (length {A = ℕ}) streams) i) }
+    ensures place { (claim : Claim) (piece : Piece) (streams : List (List ℕ)) → claim.stripe ≡ piece.stripe → claim.target ≡ piece.target → claim.at ≡ piece.at
+        → place_of claim streams ≡ place_of_piece claim.scheme streams piece }
 {}

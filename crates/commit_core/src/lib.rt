@@ -4,6 +4,9 @@
 mod claim;
 mod deposit;
 mod laws;
+mod listing;
+mod longest;
+mod piece;
 mod stripe;
 #[cfg(test)]
 mod tests;
@@ -11,5 +14,7 @@ mod working;
 
 pub use claim::Claim;
 pub use deposit::Deposit;
-pub use laws::deposits_are_shares;
+pub use laws::{deposits_are_shares, pieces_are_kept};
+pub use listing::pieces_of_set;
+pub use piece::Piece;
 pub use working::work;
