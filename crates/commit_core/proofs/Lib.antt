@@ -4,3 +4,6 @@ pub mod Parts
 pub mod OnePiece
 pub mod Listed
 pub mod Tiles
+pub mod Index
+pub mod Kept
+pub mod Searched

@@ -1,3 +1,5 @@
 pub mod Claims
 pub mod Deposits
+pub mod LedgerBook
+pub mod LedgerIndex
 pub mod Pieces

@@ -4,10 +4,14 @@
 mod claim;
 mod deposit;
 mod laws;
+mod ledger;
 mod listing;
 mod longest;
+mod outs;
 mod piece;
+mod standing;
 mod stripe;
+mod taken;
 #[cfg(test)]
 mod tests;
 mod working;
@@ -15,6 +19,8 @@ mod working;
 pub use claim::Claim;
 pub use deposit::Deposit;
 pub use laws::{deposits_are_shares, pieces_are_kept};
+pub use ledger::Ledger;
 pub use listing::pieces_of_set;
 pub use piece::Piece;
+pub use taken::Taken;
 pub use working::work;
