@@ -7,3 +7,4 @@ pub mod Tiles
 pub mod Index
 pub mod Kept
 pub mod Searched
+pub mod SetLengths

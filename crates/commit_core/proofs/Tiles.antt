@@ -1,21 +1,21 @@
 -- The pieces of a target, and how they tile what it keeps.
-use Rattle.std.proofs.Common.{◌≡◌, ◌≢◌, ℕ, zero, suc, ◌+◌, ◌-◌, ◌*◌, ◌%◌, ◌==◌, ◌<◌, ◌≤◌, Bool, true, false, List, [], ◌∷◌, ◌++◌, length, map, slice_index, slice_index_or, add-one, refl, sym, ap, subst, ◌∙◌, arith, inl, inr, IsTrue}
+use Rattle.std.proofs.Common.{◌≡◌, ◌≢◌, ℕ, zero, suc, ◌+◌, ◌-◌, ◌*◌, ◌%◌, ◌==◌, ◌&&◌, ◌<◌, ◌≤◌, Bool, true, false, List, [], ◌∷◌, ◌++◌, length, map, slice_index, slice_index_or, add-one, refl, sym, ap, subst, ◌∙◌, arith, inl, inr, IsTrue}
 use Rattle.std.specs.List.{filter, flat_map}
 use Rattle.std.proofs.Math.ListN.{get_or-map}
-use Rattle.std.proofs.lemmas.Bool.{cases_Bool, cases_lt, eq-eqb, ne_eqb, leb-true}
+use Rattle.std.proofs.lemmas.Bool.{cases_Bool, cases_lt, eq-eqb, ne_eqb, leb-true, and_left, and_right, and_from}
 use Rattle.std.proofs.lemmas.List.{length-map, append-nil}
 use Rattle.std.proofs.lemmas.List.Elements.{filter-append}
 use Rattle.std.proofs.lemmas.Grind.{flat_map-append}
 use Rattle.scr_base.specs.declared.shape.Scheme.{Scheme}
 use Rattle.scr_base.specs.declared.shape.Scheme.TheVariants.{Single, Partner, Xor, Rs}
-use Rattle.scr_base.specs.Sets.{numbers_below}
+use Rattle.scr_base.specs.Sets.{numbers_below, group_count}
 use Rattle.partner_copy.specs.Partner.{share_of}
 use Rattle.member_shares.specs.Layout.{holds_parity, parity_place}
 use Rattle.member_shares.specs.Shares.{parity_count, segment_length, AreParityShares, IsParityShare, IsShare, IsSet}
 use Rattle.member_shares.proofs.Places.{parity_all, parity_place_none, parity_place_in, parity_place_out}
 use Rattle.redundancy_set.proofs.Joined.{next_place}
 use Rattle.commit_core.specs.Deposits.{place_in, place_of}
-use Rattle.commit_core.specs.Pieces.{whole_piece, in_stripe, parity_pieces, length_before, pieces_of_member, pieces_of_set, place_of_piece, FollowOn}
+use Rattle.commit_core.specs.Pieces.{whole_piece, in_stripe, parity_pieces, length_before, pieces_of_member, pieces_of_set, set_lengths, pieces_of_local, pieces_of, is_kept_by, place_of_piece, FollowOn}
 use Rattle.commit_core.specs.declared.claim.Claim.{Claim}
 use Rattle.commit_core.specs.declared.piece.Piece.{Piece}
 use Rattle.commit_core.proofs.Listed.{numbers_more, kept, kept_in, kept_out}
@@ -82,34 +82,38 @@ same_place claim piece streams s t a =
     ∙ ap (λ x. place_in claim.scheme n c piece.stripe x claim.at) t
     ∙ ap (λ x. place_in claim.scheme n c piece.stripe piece.target x) a
 
--- ---- those of one target
-all_of : {X : Type 0} (f : X → Piece) (i : ℕ) (xs : List X) → ((x : X) → (f x).target ≡ i) → filter (λ piece. piece.target == i) (map f xs) ≡ map f xs
-all_of f i [] same = refl
-all_of f i (x ∷ xs) same = rw (eq-eqb (f x).target i (same x)) (ap (λ ys. f x ∷ ys) (all_of f i xs same))
+-- ---- those of one member
+-- a test of the three numbers that name the member
+abbrev by : (ℕ → ℕ → ℕ → Bool) → Piece → Bool
+by test piece = test piece.local piece.group piece.target
 
-none_of : {X : Type 0} (f : X → Piece) (i : ℕ) (xs : List X) → ((x : X) → ((f x).target == i) ≡ false) → filter (λ piece. piece.target == i) (map f xs) ≡ []
-none_of f i [] other = refl
-none_of f i (x ∷ xs) other = rw (other x) (none_of f i xs other)
+module _ (test : ℕ → ℕ → ℕ → Bool) (local group i : ℕ) where
+  all_of : {X : Type 0} (f : X → Piece) (xs : List X) → ((x : X) → by test (f x) ≡ true) → filter (by test) (map f xs) ≡ map f xs
+  all_of f [] same = refl
+  all_of f (x ∷ xs) same = rw (same x) (ap (λ ys. f x ∷ ys) (all_of f xs same))
 
-member_own : (scheme : Scheme) (local group : ℕ) (lengths : List ℕ) (i : ℕ)
-    → filter (λ piece. piece.target == i) (pieces_of_member scheme local group lengths i) ≡ pieces_of_member scheme local group lengths i
-member_own Single local group lengths i = refl
-member_own Partner local group lengths i = all_of (whole_piece local group i) i (length_before lengths i ∷ []) (λ x. refl)
-member_own Xor local group lengths i =
-    all_of (in_stripe (whole_piece local group i (segment_length Xor lengths))) i (filter (λ s. holds_parity (length lengths) 1 s i) (numbers_below (length lengths))) (λ s. refl)
-member_own (Rs shares) local group lengths i =
-    all_of (in_stripe (whole_piece local group i (segment_length (Rs shares) lengths))) i (filter (λ s. holds_parity (length lengths) shares s i) (numbers_below (length lengths)))
-    (λ s. refl)
+  none_of : {X : Type 0} (f : X → Piece) (xs : List X) → ((x : X) → by test (f x) ≡ false) → filter (by test) (map f xs) ≡ []
+  none_of f [] other = refl
+  none_of f (x ∷ xs) other = rw (other x) (none_of f xs other)
 
-member_other : (scheme : Scheme) (local group : ℕ) (lengths : List ℕ) (i j : ℕ) → (j == i) ≡ false
-    → filter (λ piece. piece.target == i) (pieces_of_member scheme local group lengths j) ≡ []
-member_other Single local group lengths i j other = refl
-member_other Partner local group lengths i j other = none_of (whole_piece local group j) i (length_before lengths j ∷ []) (λ x. other)
-member_other Xor local group lengths i j other =
-    none_of (in_stripe (whole_piece local group j (segment_length Xor lengths))) i (filter (λ s. holds_parity (length lengths) 1 s j) (numbers_below (length lengths))) (λ s. other)
-member_other (Rs shares) local group lengths i j other =
-    none_of (in_stripe (whole_piece local group j (segment_length (Rs shares) lengths))) i (filter (λ s. holds_parity (length lengths) shares s j) (numbers_below (length lengths)))
-    (λ s. other)
+  member_own : (scheme : Scheme) (lengths : List ℕ) → test local group i ≡ true
+      → filter (by test) (pieces_of_member scheme local group lengths i) ≡ pieces_of_member scheme local group lengths i
+  member_own Single lengths e = refl
+  member_own Partner lengths e = all_of (whole_piece local group i) (length_before lengths i ∷ []) (λ x. e)
+  member_own Xor lengths e =
+      all_of (in_stripe (whole_piece local group i (segment_length Xor lengths))) (filter (λ s. holds_parity (length lengths) 1 s i) (numbers_below (length lengths))) (λ s. e)
+  member_own (Rs shares) lengths e =
+      all_of (in_stripe (whole_piece local group i (segment_length (Rs shares) lengths))) (filter (λ s. holds_parity (length lengths) shares s i) (numbers_below (length lengths)))
+      (λ s. e)
+
+  member_other : (scheme : Scheme) (lengths : List ℕ) → test local group i ≡ false → filter (by test) (pieces_of_member scheme local group lengths i) ≡ []
+  member_other Single lengths e = refl
+  member_other Partner lengths e = none_of (whole_piece local group i) (length_before lengths i ∷ []) (λ x. e)
+  member_other Xor lengths e =
+      none_of (in_stripe (whole_piece local group i (segment_length Xor lengths))) (filter (λ s. holds_parity (length lengths) 1 s i) (numbers_below (length lengths))) (λ s. e)
+  member_other (Rs shares) lengths e =
+      none_of (in_stripe (whole_piece local group i (segment_length (Rs shares) lengths))) (filter (λ s. holds_parity (length lengths) shares s i) (numbers_below (length lengths)))
+      (λ s. e)
 
 -- of lists that are put one behind the other, one for each number, what passes in one more
 passed_more : {X : Type 0} (q : X → Bool) (f : ℕ → List X) (m : ℕ)
@@ -119,7 +123,7 @@ passed_more q f m =
     ap (λ xs. filter q (flat_map f xs)) more ∙ ap (filter q) (flat_map-append f (numbers_below m) (m ∷ [])) ∙ filter-append q (flat_map f (numbers_below m)) (f m ++ [])
     ∙ ap (λ xs. filter q (flat_map f (numbers_below m)) ++ filter q xs) (append-nil (f m))
 
--- only those of number i pass
+-- only of number i's does anything pass
 none_before : {X : Type 0} (q : X → Bool) (f : ℕ → List X) (i m : ℕ) → ((j : ℕ) → (j == i) ≡ false → filter q (f j) ≡ []) → m ≤ i
     → filter q (flat_map f (numbers_below m)) ≡ []
 none_before q f i zero other h = refl
@@ -127,21 +131,47 @@ none_before q f i (suc m) other h =
     let apart : (m == i) ≡ false = ne_eqb m i (λ e. omega (arith, e)) in
     passed_more q f m ∙ ap (λ xs. xs ++ filter q (f m)) (none_before q f i m other (omega arith)) ∙ other m apart
 
-only_one : {X : Type 0} (q : X → Bool) (f : ℕ → List X) (i m : ℕ) → filter q (f i) ≡ f i → ((j : ℕ) → (j == i) ≡ false → filter q (f j) ≡ []) → i < m
-    → filter q (flat_map f (numbers_below m)) ≡ f i
-only_one q f i zero own other h = absurd (omega arith)
-only_one q f i (suc m) own other h =
+only_one : {X : Type 0} (q : X → Bool) (f : ℕ → List X) (i m : ℕ) → ((j : ℕ) → (j == i) ≡ false → filter q (f j) ≡ []) → i < m
+    → filter q (flat_map f (numbers_below m)) ≡ filter q (f i)
+only_one q f i zero other h = absurd (omega arith)
+only_one q f i (suc m) other h =
     elim (cases_lt i m) [
       | inl low ↦
           let apart : (m == i) ≡ false = ne_eqb m i (λ e. omega (arith, e)) in
-          passed_more q f m ∙ ap (λ xs. xs ++ filter q (f m)) (only_one q f i m own other low) ∙ ap (λ xs. f i ++ xs) (other m apart) ∙ append-nil (f i)
+          passed_more q f m ∙ ap (λ xs. xs ++ filter q (f m)) (only_one q f i m other low) ∙ ap (λ xs. filter q (f i) ++ xs) (other m apart) ∙ append-nil (filter q (f i))
       | inr high ↦
           let top : m ≡ i = omega arith in
-          passed_more q f m ∙ ap (λ xs. xs ++ filter q (f m)) (none_before q f i m other (omega arith)) ∙ ap (λ t. filter q (f t)) top ∙ own
+          passed_more q f m ∙ ap (λ xs. xs ++ filter q (f m)) (none_before q f i m other (omega arith)) ∙ ap (λ t. filter q (f t)) top
     ]
 
-pub of_target : (scheme : Scheme) (local group i : ℕ) (lengths : List ℕ) → i < length lengths
-    → filter (λ piece. piece.target == i) (pieces_of_set scheme local group lengths) ≡ pieces_of_member scheme local group lengths i
-of_target scheme local group i lengths low =
-    only_one (λ piece. piece.target == i) (pieces_of_member scheme local group lengths) i (length lengths) (member_own scheme local group lengths i)
-    (λ j apart. member_other scheme local group lengths i j apart) low
+none_passes : {X : Type 0} (q : X → Bool) (f : ℕ → List X) (m : ℕ) → ((j : ℕ) → filter q (f j) ≡ []) → filter q (flat_map f (numbers_below m)) ≡ []
+none_passes q f zero none = refl
+none_passes q f (suc m) none = passed_more q f m ∙ ap (λ xs. xs ++ filter q (f m)) (none_passes q f m none) ∙ none m
+
+pub of_member : (scheme : Scheme) (nodes ranks size local group i : ℕ) (lengths : List ℕ) → local < ranks → group < group_count nodes size
+    → i < length (set_lengths nodes ranks size group local lengths)
+    → filter (is_kept_by local group i) (pieces_of scheme nodes ranks size lengths) ≡ pieces_of_member scheme local group (set_lengths nodes ranks size group local lengths) i
+of_member scheme nodes ranks size local group i lengths l g low =
+    only_one (by test) (pieces_of_local scheme nodes ranks size lengths) local ranks (λ j apart. other_local j apart) l
+    ∙ only_one (by test) (λ h. pieces_of_set scheme local h (own h)) group (group_count nodes size) (λ h apart. other_group h apart) g
+    ∙ only_one (by test) (pieces_of_member scheme local group (own group)) i (length (own group))
+    (λ j apart. member_other test local group j scheme (own group) (and_right ((local == local) && (group == group)) (j == i) apart)) low
+    ∙ member_own test local group i scheme (own group) (and_from ((local == local) && (group == group)) (i == i) (and_from (local == local) (group == group) (eq-eqb local local refl) (eq-eqb group group refl)) (eq-eqb i i refl))
+  where
+    test : ℕ → ℕ → ℕ → Bool
+    test a b c = a == local && b == group && c == i
+
+    own : ℕ → List ℕ
+    own h = set_lengths nodes ranks size h local lengths
+
+    other_local : (j : ℕ) → (j == local) ≡ false → filter (by test) (pieces_of_local scheme nodes ranks size lengths j) ≡ []
+    other_local j apart =
+        none_passes (by test) (λ h. pieces_of_set scheme j h (set_lengths nodes ranks size h j lengths)) (group_count nodes size)
+        (λ h.
+        none_passes (by test) (pieces_of_member scheme j h (set_lengths nodes ranks size h j lengths)) (length (set_lengths nodes ranks size h j lengths))
+        (λ k. member_other test j h k scheme (set_lengths nodes ranks size h j lengths) (and_left (j == local && h == group) (k == i) (and_left (j == local) (h == group) apart))))
+
+    other_group : (h : ℕ) → (h == group) ≡ false → filter (by test) (pieces_of_set scheme local h (own h)) ≡ []
+    other_group h apart =
+        none_passes (by test) (pieces_of_member scheme local h (own h)) (length (own h))
+        (λ k. member_other test local h k scheme (own h) (and_left (local == local && h == group) (k == i) (and_right (local == local) (h == group) apart)))

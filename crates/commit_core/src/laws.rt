@@ -1,9 +1,10 @@
-ghost use Rattle.std.specs.Prelude.{◌≡◌, ◌==◌, ◌<◌, ℕ, List, filter, length, map};
+ghost use Rattle.std.specs.Prelude.{◌≡◌, ◌<◌, ℕ, List, filter, length, map};
 ghost use Rattle.scr_base.specs.declared.shape.Scheme.{Scheme};
+ghost use Rattle.scr_base.specs.Sets.{group_count};
 ghost use Rattle.partner_copy.specs.declared.Held.{Held};
 ghost use Rattle.member_shares.specs.Shares.{IsMember, IsSet, AreBytes};
 ghost use Rattle.commit_core.specs.Deposits.{IsPiece, AreInputsOf, IsPartAt, place_of};
-ghost use Rattle.commit_core.specs.Pieces.{pieces_of_member, pieces_of_set, place_of_piece, FollowOn};
+ghost use Rattle.commit_core.specs.Pieces.{set_lengths, pieces_of_member, pieces_of, is_kept_by, place_of_piece, FollowOn};
 ghost use Rattle.commit_core.specs.declared.claim.Claim.{Claim};
 ghost use Rattle.commit_core.specs.declared.deposit.Deposit.{Deposit};
 ghost use Rattle.commit_core.specs.declared.piece.Piece.{Piece};
@@ -17,12 +18,12 @@ pub fn deposits_are_shares()
     ensures one { (claim : Claim) (xs ys : List ℕ) → AreBytes claim.inputs → IsPiece claim xs → IsPiece claim ys → xs ≡ ys }
 {}
 
-/// The pieces of a set that have one target, in their order, are those that this member keeps; they tile what it keeps:
-/// each stands where the one before ends, from the first byte to the last. A piece stands where a claim of its target,
-/// stripe and place tells. For the crates above. It does nothing.
+/// The pieces of a dataset that one member keeps, in their order, are those of its set with it as target. They tile
+/// what it keeps: each stands where the one before ends, from the first byte to the last. A piece stands where a claim
+/// of its target, stripe and place tells. For the crates above. It does nothing.
 pub fn pieces_are_kept()
-    ensures own { (scheme : Scheme) (local group i : ℕ) (lengths : List ℕ) → i < length lengths
-        → filter (λ piece. piece.target == i) (pieces_of_set scheme local group lengths) ≡ pieces_of_member scheme local group lengths i }
+    ensures own { (scheme : Scheme) (nodes ranks size local group i : ℕ) (lengths : List ℕ) → local < ranks → group < group_count nodes size → i < length (set_lengths nodes ranks size group local lengths)
+        → filter (is_kept_by local group i) (pieces_of scheme nodes ranks size lengths) ≡ pieces_of_member scheme local group (set_lengths nodes ranks size group local lengths) i }
     ensures tile { (scheme : Scheme) (local group i : ℕ) (streams : List (List ℕ)) (held : Held) → IsSet scheme (length streams) → i < length streams → IsMember scheme streams i held
         → FollowOn (place_of_piece scheme streams) 0 (length held.share) (pieces_of_member scheme local group (map (length {A = ℕ}) streams) i) }
     ensures place { (claim : Claim) (piece : Piece) (streams : List (List ℕ)) → claim.stripe ≡ piece.stripe → claim.target ≡ piece.target → claim.at ≡ piece.at

@@ -20,7 +20,7 @@ pub use claim::Claim;
 pub use deposit::Deposit;
 pub use laws::{deposits_are_shares, pieces_are_kept};
 pub use ledger::Ledger;
-pub use listing::pieces_of_set;
+pub use listing::pieces_of;
 pub use piece::Piece;
 pub use taken::Taken;
 pub use working::work;

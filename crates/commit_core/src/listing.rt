@@ -1,29 +1,84 @@
-ghost use Rattle.std.specs.Prelude.{◌≡◌, ◌++◌, ◌<◌, length, IfOk, OnOk};
+ghost use Rattle.std.specs.Prelude.{◌≡◌, ◌++◌, ◌*◌, ◌<◌, ◌≤◌, length, IfOk, OnOk};
+ghost use Rattle.scr_base.specs.Sets.{group_count};
 ghost use Rattle.member_shares.specs.Shares.{IsSet, parity_count, segment_length};
-ghost use Rattle.commit_core.specs.Pieces.{whole_piece, parity_pieces, pieces_of_member, pieces_of_set};
+ghost use Rattle.commit_core.specs.Pieces.{whole_piece, parity_pieces, pieces_of_member, pieces_of_set, set_lengths, pieces_of_local, pieces_of};
 
 use crate::longest::longest_of;
 use crate::piece::Piece;
-use redundancy_set::Stripes;
+use redundancy_set::{Sets, Stripes};
 use scr_base::{Memory, Scheme};
 use std::alloc::Global;
 
-/// All pieces of the set of a local number and a group, whose members' streams have these lengths in bytes: ascending
-/// by target, and for one target by stripe. A piece covers a whole parity segment, or for PARTNER the whole stream of
-/// the neighbour, also one of no bytes. SINGLE has none.
-pub fn pieces_of_set(
+/// All pieces of a dataset on these sets, with that many ranks a node. `lengths` has the bytes of each rank's stream,
+/// by ascending rank. The pieces ascend by local number, group, target and stripe. A piece covers a whole parity
+/// segment, or for PARTNER the whole stream of the neighbour, also one of no bytes; SINGLE has none.
+pub fn pieces_of(
     alloc: Global,
-    scheme: Scheme,
+    sets: Sets,
+    ranks: u8,
+    lengths: &[u32],
+) -> Result<Vec<Piece>, Memory>
+    requires some { 1 ≤ sets.nodes }
+    requires lengths { length lengths.now ≡ sets.nodes * ranks }
+    ensures { IfOk result (λ pieces. pieces.items ≡ pieces_of sets.scheme sets.nodes ranks sets.size lengths.now) }
+{
+    let mut pieces = Vec::new(alloc);
+    for local in 0..ranks {
+        add_local(alloc, &mut pieces, sets, ranks, local, lengths)?;
+    }
+    Ok(pieces)
+}
+
+/// Puts the pieces of all sets of a local number at the end.
+fn add_local(
+    alloc: Global,
+    pieces: &mut Vec<Piece>,
+    sets: Sets,
+    ranks: u8,
+    local: u8,
+    lengths: &[u32],
+) -> Result<(), Memory>
+    requires some { 1 ≤ sets.nodes }
+    requires local { local < ranks }
+    requires lengths { length lengths.now ≡ sets.nodes * ranks }
+    ensures { OnOk result (pieces.new.items ≡ pieces.old.items ++ pieces_of_local sets.scheme sets.nodes ranks sets.size lengths.now local) }
+{
+    for group in 0..groups_of(sets) {
+        let own = lengths_of(alloc, sets, ranks, local, group, lengths)?;
+        add_set(pieces, sets.scheme, local, group, own.as_slice())?;
+    }
+    Ok(())
+}
+
+/// How many groups there are.
+fn groups_of(sets: Sets) -> u8
+    ensures { result ≡ group_count sets.nodes sets.size }
+{
+    (sets.nodes / sets.size).max(1)
+}
+
+/// The lengths of the streams of one set's members.
+fn lengths_of(
+    alloc: Global,
+    sets: Sets,
+    ranks: u8,
     local: u8,
     group: u8,
     lengths: &[u32],
-) -> Result<Vec<Piece>, Memory>
-    requires { IsSet scheme (length lengths.now) }
-    ensures { IfOk result (λ pieces. pieces.items ≡ pieces_of_set scheme local group lengths.now) }
+) -> Result<Vec<u32>, Memory>
+    requires group { group < group_count sets.nodes sets.size }
+    requires local { local < ranks }
+    requires lengths { length lengths.now ≡ sets.nodes * ranks }
+    ensures { IfOk result (λ own. own.items ≡ set_lengths sets.nodes ranks sets.size group local lengths.now) }
 {
-    let mut pieces = Vec::new(alloc);
-    add_set(&mut pieces, scheme, local, group, lengths)?;
-    Ok(pieces)
+    let groups = groups_of(sets);
+    let mut own = Vec::new(alloc);
+    let mut node = group;
+    while node < sets.nodes {
+        own.push(lengths[node as usize * ranks as usize + local as usize])?;
+        node += groups;
+    }
+    Ok(own)
 }
 
 /// Puts the pieces of a set at the end.
