@@ -1,6 +1,6 @@
 -- The list of the numbers that are out, after each step of a book.
-use Rattle.std.proofs.Common.{◌≡◌, ◌≢◌, ℕ, ◌+◌, ◌-◌, ◌<◌, ◌≤◌, ◌==◌, Bool, true, false, if◌then◌else◌, List, [], ◌∷◌, ◌++◌, length, map, slice_set, slice_index_or, slice_get, Some, refl, sym, ap, subst, ◌∙◌, arith, inl, inr}
-use Rattle.std.specs.List.{remove, list_any, AllPairs}
+use Rattle.std.proofs.Common.{◌≡◌, ◌≢◌, ℕ, ◌+◌, ◌-◌, ◌<◌, ◌≤◌, true, false, if◌then◌else◌, List, [], ◌∷◌, ◌++◌, length, map, slice_set, refl, sym, ap, subst, ◌∙◌, arith, inl, inr}
+use Rattle.std.specs.List.{remove, list_any}
 use Rattle.std.proofs.lemmas.Bool.{cases_lt, cases_eq, cases_order, eq-eqb, eqb-true, false_from_ne_true}
 use Rattle.std.proofs.lemmas.List.{length-set, length-map, length_push, get_or-set_same, get_or-set_other, get_or_append_left, get_or_push, get_or_past, get_or_default, get_or-map, ext_get_or}
 use Rattle.std.proofs.lemmas.List.Edits.{length-remove, get_or-remove_below, get_or-remove_above}
@@ -11,7 +11,7 @@ use Rattle.commit_core.specs.declared.outs.OutAt.{OutAt}
 use Rattle.commit_core.specs.declared.standing.Standing.{Standing}
 use Rattle.commit_core.specs.declared.standing.Standing.TheVariants.{Unclaimed, Out, Done}
 use Rattle.commit_core.specs.LedgerBook.{is_under, moved}
-use Rattle.commit_core.specs.LedgerIndex.{out_at, standing_at, Ascend, HasOut, IsFoundAt, IsIndex}
+use Rattle.commit_core.specs.LedgerIndex.{out_at, standing_at, Ascend, HasOut, IsIndex}
 
 abbrev pub none_out : OutAt
 none_out = record { number = 0; place = 0 }

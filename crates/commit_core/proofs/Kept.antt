@@ -1,8 +1,8 @@
 -- What is kept beside a book, after each of its steps.
-use Rattle.std.proofs.Common.{◌≡◌, ◌≢◌, ℕ, zero, suc, ◌+◌, ◌-◌, ◌<◌, ◌≤◌, ◌==◌, ◌^◌, ◌&&◌, if◌then◌else◌, min, Bool, true, false, cond, List, [], ◌∷◌, ◌++◌, length, replicate, slice_set, slice_index_or, slice_get, Option, Some, None, refl, sym, ap, subst, ◌∙◌, arith, inl, inr}
+use Rattle.std.proofs.Common.{◌≡◌, ◌≢◌, ℕ, zero, suc, ◌+◌, ◌-◌, ◌<◌, ◌≤◌, ◌==◌, ◌^◌, ◌&&◌, if◌then◌else◌, min, Bool, true, false, cond, List, [], ◌∷◌, ◌++◌, length, replicate, slice_set, slice_index_or, slice_get, Some, None, refl, sym, ap, subst, ◌∙◌, arith, inl, inr}
 use Rattle.std.specs.Prelude.{option_and_then}
 use Rattle.std.specs.List.{remove, count_by, list_all, position, position_or_len}
-use Rattle.std.proofs.lemmas.Bool.{cases_Bool, cases_lt, cases_eq, cases_order, lt-ltb, le-ltb, eq-eqb, ne_eqb, and_parts, and_left, and_right}
+use Rattle.std.proofs.lemmas.Bool.{cases_Bool, cases_lt, cases_eq, lt-ltb, le-ltb, eq-eqb, ne_eqb, and_parts}
 use Rattle.std.proofs.lemmas.List.{length-set, length-replicate, length_push, get_or-set_same, get_or-set_other, get_or-replicate, get_or_past}
 use Rattle.std.proofs.lemmas.List.Edits.{length-remove}
 use Rattle.std.proofs.lemmas.List.Folds.{position_or_len-set}
@@ -13,7 +13,7 @@ use Rattle.commit_core.specs.declared.standing.Standing.{Standing}
 use Rattle.commit_core.specs.declared.standing.Standing.TheVariants.{Unclaimed, Out, Done}
 use Rattle.commit_core.specs.declared.taken.Taken.TheVariants.{Handed, NoNumber}
 use Rattle.commit_core.specs.LedgerBook.{Book, is_unclaimed, is_out, is_done, none_claimed, taken_as, taken_of}
-use Rattle.commit_core.specs.LedgerIndex.{out_at, standing_at, HasOut, IsIndex, IsKept}
+use Rattle.commit_core.specs.LedgerIndex.{standing_at, HasOut, IsKept}
 use Rattle.commit_core.proofs.Index.{unclaimed_out, done_out, out_within, stands, index_taken, index_ended}
 
 -- ---- lists

@@ -1,6 +1,5 @@
 -- The lengths of the streams of a set's members, one more at a time.
-use Rattle.std.proofs.Common.{◌≡◌, ℕ, ◌+◌, ◌*◌, ◌/◌, ◌%◌, ◌<◌, ◌≤◌, ◌==◌, max, Bool, true, IsTrue, List, [], ◌∷◌, ◌++◌, length, map, take, slice_index, refl, sym, ap, subst, ◌∙◌, arith, inl, inr}
-use Rattle.std.specs.List.{filter, list_all}
+use Rattle.std.proofs.Common.{◌≡◌, ℕ, ◌+◌, ◌*◌, ◌/◌, ◌%◌, ◌<◌, ◌≤◌, ◌==◌, Bool, IsTrue, List, [], ◌∷◌, ◌++◌, length, map, take, slice_index, sym, ap, subst, ◌∙◌, arith, inl, inr}
 use Rattle.std.proofs.Math.Nat.{mod-eq_of_lt, div-le_self}
 use Rattle.std.proofs.lemmas.Nat.{div-mul-add, mod-mul-add}
 use Rattle.std.proofs.lemmas.Bool.{cases_lt}
@@ -12,7 +11,6 @@ use Rattle.scr_base.specs.Sets.{numbers_below, group_count, nodes_of_group, rank
 use Rattle.scr_base.proofs.Chosen.{number_at}
 use Rattle.process_sets.proofs.Groups.{members_spread, member_below, place_within}
 use Rattle.member_shares.specs.Shares.{IsSet}
-use Rattle.redundancy_set.proofs.Joined.{next_place}
 use Rattle.commit_core.specs.Pieces.{set_lengths}
 
 length-ranks : (nodes ranks size group local : ℕ) → length (ranks_of_set nodes ranks size group local) ≡ length (nodes_of_group nodes size group)

@@ -1,5 +1,5 @@
 -- The pieces of a target, and how they tile what it keeps.
-use Rattle.std.proofs.Common.{◌≡◌, ◌≢◌, ℕ, zero, suc, ◌+◌, ◌-◌, ◌*◌, ◌%◌, ◌==◌, ◌&&◌, ◌<◌, ◌≤◌, Bool, true, false, List, [], ◌∷◌, ◌++◌, length, map, slice_index, slice_index_or, add-one, refl, sym, ap, subst, ◌∙◌, arith, inl, inr, IsTrue}
+use Rattle.std.proofs.Common.{◌≡◌, ℕ, zero, suc, ◌+◌, ◌-◌, ◌*◌, ◌%◌, ◌==◌, ◌&&◌, ◌<◌, ◌≤◌, Bool, true, false, List, [], ◌∷◌, ◌++◌, length, map, slice_index, add-one, refl, sym, ap, subst, ◌∙◌, arith, inl, inr}
 use Rattle.std.specs.List.{filter, flat_map}
 use Rattle.std.proofs.Math.ListN.{get_or-map}
 use Rattle.std.proofs.lemmas.Bool.{cases_Bool, cases_lt, eq-eqb, ne_eqb, leb-true, and_left, and_right, and_from}
@@ -11,7 +11,7 @@ use Rattle.scr_base.specs.declared.shape.Scheme.TheVariants.{Single, Partner, Xo
 use Rattle.scr_base.specs.Sets.{numbers_below, group_count}
 use Rattle.partner_copy.specs.Partner.{share_of}
 use Rattle.member_shares.specs.Layout.{holds_parity, parity_place}
-use Rattle.member_shares.specs.Shares.{parity_count, segment_length, AreParityShares, IsParityShare, IsShare, IsSet}
+use Rattle.member_shares.specs.Shares.{parity_count, segment_length, IsParityShare, IsShare, IsSet}
 use Rattle.member_shares.proofs.Places.{parity_all, parity_place_none, parity_place_in, parity_place_out}
 use Rattle.redundancy_set.proofs.Joined.{next_place}
 use Rattle.commit_core.specs.Deposits.{place_in, place_of}

@@ -1,4 +1,4 @@
-use Rattle.std.proofs.Common.{◌≡◌, ◌<◌, true, false, length, sym, ap, ◌∙◌, arith}
+use Rattle.std.proofs.Common.{sym, ◌∙◌, arith}
 use Rattle.std.proofs.lemmas.List.Sums.{position_or_len_is}
 use Rattle.commit_core.specs.declared.standing.Standing.TheVariants.{Unclaimed}
 use Rattle.commit_core.specs.LedgerBook.{is_unclaimed}

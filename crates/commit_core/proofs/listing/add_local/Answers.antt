@@ -1,5 +1,4 @@
-use Rattle.std.proofs.Common.{◌≡◌, ℕ, ◌++◌, List, length, subst, sym, ap, ◌∙◌, arith}
-use Rattle.scr_base.specs.Sets.{group_count}
+use Rattle.std.proofs.Common.{ℕ, ◌++◌, List, length, subst, sym, ap, ◌∙◌, arith}
 use Rattle.member_shares.specs.Shares.{IsSet}
 use Rattle.commit_core.specs.Pieces.{pieces_of_set, set_lengths}
 use Rattle.commit_core.proofs.Listed.{run_more}

@@ -1,7 +1,7 @@
 use Rattle.std.proofs.Common.{◌≡◌, ℕ, ◌+◌, ◌*◌, ◌++◌, ◌∷◌, [], length, map, take, slice_index, refl, subst, sym, ap, ◌∙◌, arith}
 use Rattle.std.proofs.lemmas.List.{length_push}
 use Rattle.std.proofs.lemmas.Grind.{common_steps}
-use Rattle.scr_base.specs.Sets.{group_count, nodes_of_group, ranks_of_set}
+use Rattle.scr_base.specs.Sets.{group_count, ranks_of_set}
 use Rattle.redundancy_set.proofs.Joined.{next_place}
 use Rattle.commit_core.proofs.SetLengths.{member_more, lengths_more, all_members, all_lengths}
 use Rattle.commit_core.proofs.listing.lengths_of.Goals as goal

@@ -1,4 +1,4 @@
-use Rattle.std.proofs.Common.{◌≡◌, ℕ, ◌+◌, ◌-◌, ◌*◌, ◌≤◌, List, length, map, take, slice_index}
+use Rattle.std.proofs.Common.{◌≡◌, ◌+◌, ◌-◌, ◌*◌, ◌≤◌, length, map, take, slice_index}
 use Rattle.scr_base.specs.Sets.{group_count, nodes_of_group, ranks_of_set}
 use Rattle.commit_core.proofs.listing.lengths_of.Given as goal
 

@@ -1,9 +1,8 @@
-use Rattle.std.proofs.Common.{◌≡◌, ◌<◌, ℕ, length, refl, sym, ap, subst, ◌∙◌, rules, Ok, Err, arith}
+use Rattle.std.proofs.Common.{◌<◌, length, sym, ap, subst, rules, Ok, Err, arith}
 use Rattle.std.specs.List.Sorted.{IsBinarySearchResult}
 use Rattle.std.specs.Ordering.{nat_cmp}
 use Rattle.std.proofs.lemmas.List.{get_or_read}
 use Rattle.std.proofs.lemmas.List.Sorted.{answers_always}
-use Rattle.commit_core.specs.LedgerIndex.{out_at}
 use Rattle.commit_core.proofs.Index.{none_out}
 use Rattle.commit_core.proofs.Searched.{searched_ok, searched_err}
 use Rattle.commit_core.proofs.outs.take_out.Goals as goal

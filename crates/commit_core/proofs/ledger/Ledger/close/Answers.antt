@@ -1,6 +1,5 @@
-use Rattle.std.proofs.Common.{◌≡◌, ℕ, ◌+◌, false, List, slice_set, vec_capacity, min, subst, sym, ap, ◌∙◌, arith}
+use Rattle.std.proofs.Common.{◌≡◌, ℕ, ◌+◌, false, List, slice_set, vec_capacity, subst, sym, ap, ◌∙◌}
 use Rattle.std.specs.List.{list_any, remove}
-use Rattle.std.proofs.lemmas.Grind.{common_steps}
 use Rattle.commit_core.specs.declared.outs.OutAt.{OutAt}
 use Rattle.commit_core.specs.declared.standing.Standing.{Standing}
 use Rattle.commit_core.specs.declared.standing.Standing.TheVariants.{Done}

@@ -1,8 +1,7 @@
-use Rattle.std.proofs.Common.{◌≡◌, ℕ, List, [], length, replicate, vec_capacity, subst, sym, ap, ◌∙◌, arith}
+use Rattle.std.proofs.Common.{◌≡◌, List, vec_capacity, subst, sym, arith}
 use Rattle.std.proofs.lemmas.Grind.{common_steps}
 use Rattle.commit_core.specs.declared.outs.OutAt.{OutAt}
 use Rattle.commit_core.specs.declared.standing.Standing.{Standing}
-use Rattle.commit_core.specs.declared.standing.Standing.TheVariants.{Unclaimed}
 use Rattle.commit_core.specs.LedgerBook.{none_claimed}
 use Rattle.commit_core.specs.LedgerIndex.{IsKept}
 use Rattle.commit_core.proofs.Kept.{kept_fresh}
