@@ -159,7 +159,7 @@ stopped_or_cut stage.Dropped e = absurd (cc e)
 
 -- a run that is over, and went well, came to its end
 pub ends_well : (s : Setup) (over : ℕ → DeviceState) (first : Machine) (places : List ℕ) (programs : List (List Step)) (events : List Event) (at : Stage) → is_over at ≡ true
-    → (at ≡ stage.Stopped → Ends s over first places programs events) → (at ≡ stage.Cut → WasCut s first places programs events) → list_all goes_well events ≡ true → Ends s over first places programs events
+    → (at ≡ stage.Stopped → Ends s over first places programs events) → (at ≡ stage.Cut → WasCut s over first places programs events) → list_all goes_well events ≡ true → Ends s over first places programs events
 ends_well s over first places programs events at is ends cut well = elim (stopped_or_cut at is) [
   | inl stopped ↦ ends stopped
   | inr short ↦ let item = (cut short).item in absurd (cut_fails item.front item.cause item.cut (subst (λ (es : List Event). list_all goes_well es ≡ true) item.is well))

@@ -1,5 +1,5 @@
 -- What becomes of the faults that a turn meets.
-use Rattle.std.proofs.Common.{◌≡◌, ◌⊎◌, inl, inr, ℕ, List, [], ◌∷◌, ◌++◌, Some, None, Err, true, refl, sym, ap, ◌∙◌, subst}
+use Rattle.std.proofs.Common.{append-nil, arith, length, ◌≤◌, ◌≡◌, ◌⊎◌, inl, inr, ℕ, List, [], ◌∷◌, ◌++◌, Some, None, Err, true, refl, sym, ap, ◌∙◌, subst}
 use Rattle.scr_base.specs.declared.actor.Actor.{Actor}
 use Rattle.scr_base.specs.declared.actor.Actor.TheVariants as actor
 use Rattle.scr_base.specs.declared.answers.Refusal.{Refusal}
@@ -8,6 +8,7 @@ use Rattle.scr_base.specs.declared.answers.Reply.TheVariants as reply
 use Rattle.scr_base.specs.declared.content.Step.{Step}
 use Rattle.node_device.specs.DeviceState.{DeviceState}
 use Rattle.node_device.specs.Rack.{Rack, states_of}
+use Rattle.ckpt_model.specs.Track.{Track}
 use Rattle.ckpt_model.specs.declared.event.Event.{Event}
 use Rattle.ckpt_model.specs.declared.event.Event.TheVariants as event
 use Rattle.site_core.specs.declared.core_state.Core.{Core}
@@ -18,7 +19,7 @@ use Rattle.site_core.specs.declared.error.Trouble.TheVariants as error
 use Rattle.site_core.specs.declared.site.Site.{Site}
 use Rattle.ckpt_model.specs.declared.event.StopCause.TheVariants as stops
 use Rattle.site_core.specs.Causes.{CallCause, IsCalm, told_trouble, is_told, cause_of}
-use Rattle.site_core.specs.Follows.{carried, carried_at, CarriesNoMore, TellsFault, TellsFaults, TellsOrCarries, AccountsBy}
+use Rattle.site_core.specs.Follows.{carried, carried_at, CarriesNoMore, Tells, TellsFault, TellsFaults, TellsOrCarries, AccountsBy}
 
 -- ## What a round carries
 
@@ -98,3 +99,13 @@ module _ {D : Type 0} (state : D → DeviceState) (old new : Site D) (moves : �
   accounted actor.Encoder t = counted_up t
   accounted actor.Flusher t = counted t
   accounted actor.Evictor t = counted t
+
+-- where the call found no memory, all counts are as before
+pub memory_calm : {D : Type 0} (state : D → DeviceState) (old new : Site D) (bay : Rack D) → new.bay ≡ bay → (T : Type 0) (may : ℕ → List ℕ → ℕ → ℕ → Type 0) (t : Trouble) → CallCause {T = T} may (states_of state old.bay) (states_of state bay) (Err t) → t ≡ error.Memory
+    → IsCalm (states_of state old.bay) (states_of state new.bay)
+memory_calm {D} state old new bay same T may t why memory =
+    subst (λ (b : Rack D). IsCalm (states_of state old.bay) (states_of state b)) (sym same) (subst (λ (x : Trouble). CallCause {T = T} may (states_of state old.bay) (states_of state bay) (Err x)) memory why)
+
+-- a turn that leaves the history tells nothing
+pub tells_nothing : {D : Type 0} (who : Event → Type 0) (may : ℕ → List ℕ → ℕ → ℕ → Type 0) (state : D → DeviceState) (old new : Site D) → new.history ≡ old.history → Tells who may state old new
+tells_nothing who may state old new same = record { told = []; few = omega arith; is = ap (λ (t : Track). t.events) same ∙ sym (append-nil old.history.events); own = tt; caused = tt }

@@ -112,6 +112,7 @@ has_place f (Some bytes) gate is len lt = subst (λ (l : Option ℕ). IsSomeAnd 
 pub turned : {T : Type 0} (which : DataId) (node : ℕ) (gate : MemberGate) (old new : DeviceState) (v : T) → IsSound old → SetsGate which node gate true (Ok v) old new → Turned (record_name which node) (gate_number gate) old new
 turned which node gate old new v sound w = record {
   now = λ told lt. w.now (has_place (old.file (record_name which node)) (old.file (record_name which node)).now (gate_number gate) refl (sound.lengths told (record_name which node)) lt) told;
+  torn = w.torn;
   only = w.only;
 }
 

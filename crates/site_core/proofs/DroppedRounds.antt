@@ -27,6 +27,8 @@ use Rattle.site_core.specs.declared.cache.Manifest.{Manifest}
 use Rattle.site_core.specs.declared.core_state.Core.{Core}
 use Rattle.site_core.specs.declared.core_state.Drop.{Drop}
 use Rattle.site_core.specs.declared.core_state.Stage.TheVariants as stage
+use Rattle.node_device.specs.Rack.{Rack, OnlyAt, states_of}
+use Rattle.site_core.specs.Calls.{KeptAlike}
 use Rattle.site_core.specs.declared.error.Trouble.{Trouble}
 use Rattle.site_core.specs.declared.error.Trouble.TheVariants as error
 use Rattle.site_core.specs.declared.site.Site.{Site}
@@ -40,6 +42,7 @@ use Rattle.site_core.specs.Stored.{Cells, cells_of, contents_of, IsKnown, NoOthe
 use Rattle.site_core.specs.Holds.{Leads, IsDropCause, IsDropped}
 use Rattle.site_core.proofs.Told.{leads_up, tells_more}
 use Rattle.site_core.proofs.Cuts.{cut_core, cut_round}
+use Rattle.site_core.proofs.LeftStages.{IsLeft, stage_left, left_alike}
 use Rattle.site_core.proofs.Turns.{leads_so}
 use Rattle.site_core.proofs.Gates.{both, round_is}
 use Rattle.site_core.proofs.Ranks.{first_is, owed_is}
@@ -162,18 +165,19 @@ dropped_decided first c programs states events events' a at is more leads =
 
 -- a device failed at a file that was to go, or at the sync behind it; the devices may have changed meanwhile
 pub cut_dropping : (first : Machine) (c : Core) (programs : List (List Step)) (states after : ℕ → DeviceState) (events events' : List Event) (t : Trouble) (d : Drop) (n : ℕ)
-    → c.stage ≡ stage.Dropping d n → Leads first c programs states events → is_device_fault t ≡ true → events' ≡ events ++ event.Stop (cause_of t) ∷ [] → Leads first (cut_core c) programs after events'
-cut_dropping first c programs states after events events' t d n at leads fault more = pick t fault more where
+    → c.stage ≡ stage.Dropping d n → Leads first c programs states events → is_device_fault t ≡ true → events' ≡ events ++ event.Stop (cause_of t) ∷ [] → (place : ℕ) → OnlyAt place KeptAlike states after → Leads first (cut_core c) programs after events'
+cut_dropping first c programs states after events events' t d n at leads fault more place done = pick t fault more where
   pick : (t : Trouble) → is_device_fault t ≡ true → events' ≡ events ++ event.Stop (cause_of t) ∷ [] → Leads first (cut_core c) programs after events'
   pick (error.Fault node count) f e =
       let x = dropping_at first c programs states events d n at leads in
       let h = x.0.leaves in
       let bytes = contents_of (cells_of states) c in
       cut_round first c programs after events events' node count (with_dataset bytes c h.dataset) h.round.valid (subst (λ (m : Machine). RunsTo (setup_of c) first events m) h.is leads.run) (round_is c bytes ∙ h.round.complete) (first_is c.ranks ∙ h.round.first) x.1 e
+      (subst (λ (m : Machine). IsLeft c after m) h.is (left_alike c place states after leads.state done (stage_left (stage.Dropping d n) c states leads.state at refl x.0)))
   pick error.Memory f e = absurd (cc f)
   pick (error.Full node used capacity) f e = absurd (cc f)
 
 module _ {D : Type 0} (state : D → DeviceState) (old new : Site D) (t : Trouble) (is : new.history.events ≡ old.history.events ++ event.Stop (cause_of t) ∷ []) (core : new.core ≡ cut_core old.core) (programs : new.programs ≡ old.programs) where
-  pub ends_dropping : (d : Drop) (n : ℕ) → old.core.stage ≡ stage.Dropping d n → is_device_fault t ≡ true → Keeps state old new
-  ends_dropping d n at fault tells first f =
-      leads_so state old new t is core programs first (cut_dropping first old.core old.programs (states_of state old.bay) (states_of state new.bay) old.history.events new.history.events t d n at f fault is)
+  pub ends_dropping : (d : Drop) (n : ℕ) → old.core.stage ≡ stage.Dropping d n → is_device_fault t ≡ true → (place : ℕ) (bay : Rack D) → new.bay ≡ bay → OnlyAt place KeptAlike (states_of state old.bay) (states_of state bay) → Keeps state old new
+  ends_dropping d n at fault place bay same done tells first f =
+      leads_so state old new t is core programs first (cut_dropping first old.core old.programs (states_of state old.bay) (states_of state new.bay) old.history.events new.history.events t d n at f fault is place (subst (λ (b : Rack D). OnlyAt place KeptAlike (states_of state old.bay) (states_of state b)) (sym same) done))

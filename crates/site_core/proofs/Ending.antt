@@ -115,6 +115,7 @@ ended first c programs states events events' at leads complete all more =
         steps = told.1;
         place = none-script events h.so_far.goes_on;
       });
+      left = tt;
     }
 
 -- ## The stop

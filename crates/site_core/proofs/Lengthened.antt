@@ -66,4 +66,5 @@ still_leads first c programs rank more states events h = record {
   run = h.run;
   holds = h.holds;
   told = still_told c.places programs rank more events c.stage h.told;
+  left = h.left;
 }

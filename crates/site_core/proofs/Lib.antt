@@ -38,12 +38,15 @@ pub mod LocalMoves
 pub mod LocalCalls
 pub mod LocalSteps
 pub mod RecordFiles
+pub mod LeftFiles
+pub mod LeftCaches
 pub mod Saving
 pub mod SaveMoves
 pub mod SaveEnds
 pub mod Scanned
 pub mod Recovering
 pub mod Ending
+pub mod LeftStages
 pub mod Cuts
 pub mod Refusals
 pub mod Turns

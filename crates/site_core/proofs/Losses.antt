@@ -25,7 +25,8 @@ use Rattle.site_core.proofs.Names.{members-same}
 use Rattle.site_core.proofs.Puts.{row_named, row_rank, few_rows, kept_other}
 use Rattle.site_core.proofs.RecordFiles.{node_small}
 
-is_or_not : (a b : List ℕ) → (a ≡ b) ⊎ (a ≢ b)
+-- two names are one, or not
+pub is_or_not : (a b : List ℕ) → (a ≡ b) ⊎ (a ≢ b)
 is_or_not a b = pick (bytes_eq a b) refl where
   pick : (t : Bool) → bytes_eq a b ≡ t → (a ≡ b) ⊎ (a ≢ b)
   pick true e = inl ((bytes_eq-Decides a b).0 e)

@@ -90,6 +90,7 @@ numbered first c programs states events n halt at fits is told leads =
         fits = fits;
       };
       told = told_begun c.stage c.places programs events at leads.told;
+      left = tt;
     }
 
 -- ## There is no number left
@@ -114,4 +115,5 @@ numbers_over first c programs states events events' at last more leads =
       run = run_on (setup_of c) first m (halted m) events events' (event.Stop cause.Runs) more leads.run (runs_out (setup_of c) m h.between h.index (sym h.store.stored ∙ last));
       holds = inl (record { sets = h.sets; quiet = h.quiet; store = h.store; between = refl; kept = h.kept; index = refl; halt = h.halt; mark_is = h.mark_is });
       told = subst (λ (es : List Event). IsRunOf c.places programs AtEnd es) (sym alone) (record { begin = refl; stop = refl; steps = (tt, tt); place = refl });
+      left = tt;
     }

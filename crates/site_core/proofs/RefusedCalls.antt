@@ -9,7 +9,9 @@ use Rattle.node_device.specs.declared.device.DevError.{DevError}
 use Rattle.node_device.specs.declared.device.DevError.TheVariants as device
 use Rattle.node_device.specs.Outcomes.{rest_leaves}
 use Rattle.member_store.specs.Calls.{Drops}
-use Rattle.site_core.specs.Calls.{Refused, KeptAlike, FileDropped}
+use Rattle.gated_record.specs.Record.{HasShutGates}
+use Rattle.gated_record.specs.Calls.{WritesBody, TurnsGate}
+use Rattle.site_core.specs.Calls.{Refused, Unrecorded, Unturned, KeptAlike, FileDropped}
 use Rattle.site_core.specs.Removals.{Leaving}
 use Rattle.site_core.specs.Writes.{IsNoWrite}
 use Rattle.site_core.proofs.CallCauses.{RefusedFor}
@@ -29,12 +31,25 @@ same_alike old new same = record {
   files = λ q. subst (λ (f : File). IsKept (old.file q) f) (sym (ap (λ (d : DeviceState). d.file q) same)) (record { len = refl; now = refl; fluid = λ e. e; greatest = omega arith });
 }
 
+-- of the same file a stop leaves no more
+pub same_partly : (f g : File) → g ≡ f → IsPartlySynced f g
+same_partly f g same = record { outcomes = λ o may. subst (λ (x : File). MayLeave x o) same may; touched = λ k is. ap (λ (x : File). x.touched k) (sym same) ∙ is }
+
 -- a read that was refused
 pub read_refused : (old new : DeviceState) → IsUnchanged old new → KeptAlike old new
 read_refused old new same = record {
   alike = same_alike old new same;
   at_rest = λ q rest. subst (λ (f : File). IsAtRest f) (sym (ap (λ (d : DeviceState). d.file q) same)) rest;
+  partly = λ q. same_partly (old.file q) (new.file q) (ap (λ (d : DeviceState). d.file q) same);
 }
+
+-- the write of a record's body that was refused
+pub record_unwritten : {T : Type 0} (name body : List ℕ) (error : DevError) (old new : DeviceState) → WritesBody {T = T} name body (Err error) old new → Unrecorded name old new
+record_unwritten name body error old new w = record { refused = write_refused name old new w.refused w.only; shut = w.shut; only = w.only }
+
+-- the opening of a gate that was refused
+pub gate_unturned : {T : Type 0} (name : List ℕ) (gate byte : ℕ) (error : DevError) (old new : DeviceState) → TurnsGate {T = T} name gate byte (Err error) old new → Unturned name gate old new
+gate_unturned name gate byte error old new w = record { refused = write_refused name old new w.refused w.only; torn = w.torn; only = w.only }
 
 -- ## A sync that was refused
 
@@ -63,6 +78,7 @@ pub sync_refused : {T : Type 0} (old new : DeviceState) (error : DevError) → I
 sync_refused old new error sound w = record {
   alike = w.alike;
   at_rest = λ q rest. stays_at_rest (old.file q) (new.file q) (w.alike.files q) (w.partly q) (sound.now_allowed q) (sound.stable_allowed q) rest;
+  partly = w.partly;
 }
 
 -- ## A step of a removal

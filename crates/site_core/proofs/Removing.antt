@@ -14,7 +14,9 @@ use Rattle.node_device.specs.File.{File as OneFile, IsAtRest}
 use Rattle.node_device.specs.DeviceState.{DeviceState, IsSound}
 use Rattle.node_device.specs.Rack.{OnlyAt}
 use Rattle.member_store.specs.Calls.{RemovesAtMost, HasNoFile}
-use Rattle.member_store.specs.Names.{record_name, IsNameOf}
+use Rattle.member_store.specs.Names.{record_name, IsNameOf, IsPlace}
+use Rattle.gate_outcomes.specs.Gates.{StaysShut}
+use Rattle.gate_outcomes.proofs.Stays.{rest_shut, body_shut}
 use Rattle.ckpt_model.specs.declared.event.Event.{Event}
 use Rattle.ckpt_model.specs.Answers.{is_fault}
 use Rattle.ckpt_model.specs.Machine.{Machine, Kept}
@@ -28,17 +30,23 @@ use Rattle.site_core.specs.declared.core_state.Stage.{Stage}
 use Rattle.site_core.specs.declared.core_state.Stage.TheVariants as stage
 use Rattle.site_core.specs.declared.core_state.Work.{Work}
 use Rattle.site_core.specs.declared.core_state.Work.TheVariants as work
-use Rattle.site_core.specs.Calls.{Refused, KeptAlike, Synced, FileDropped, Tells}
+use Rattle.site_core.specs.Calls.{Unrecorded, KeptAlike, Synced, FileDropped, Tells}
 use Rattle.site_core.specs.Choosing.{seals, is_being_sealed}
 use Rattle.site_core.specs.Cores.{dropping_core, next_drop_core}
 use Rattle.site_core.specs.Removals.{Leaving, leaving}
 use Rattle.site_core.specs.Shown.{running, setup_of, set_of, mends}
 use Rattle.site_core.specs.Stored.{Cells, cells_of, contents_of, IsAmong, IsKnown, IsWell, FilesHold}
-use Rattle.site_core.specs.Holds.{HoldsAt, ToldAt, Leads, IsSoFar, IsPending, NoRecordYet, WorkIs, IsSaving, IsSaved, IsDropRound, IsDropCause, IsDropFor, IsOfDataset, IsLeavingAt, IsDropping, IsDropped, RemovalIs, is_gone_at}
+use Rattle.site_core.specs.Holds.{HoldsAt, ToldAt, LeftAt, Leads, IsSoFar, IsPending, NoRecordYet, WorkIs, IsSaving, IsSaved, IsDropRound, IsDropCause, IsDropFor, IsOfDataset, IsLeavingAt, IsDropping, IsDropped, RemovalIs, is_gone_at}
 use Rattle.site_core.proofs.Told.{is_up, led}
 use Rattle.site_core.proofs.Puts.{few_nodes, kept_other}
 use Rattle.site_core.proofs.Refusals.{cells_alike, refused_rest, alike_rest}
-use Rattle.site_core.proofs.RecordFiles.{alike_cells, synced_rest}
+use Rattle.site_core.specs.Left.{NoneSealed}
+use Rattle.site_core.specs.Holds.{RecordAt}
+use Rattle.site_core.proofs.Names.{records-same}
+use Rattle.site_core.proofs.Frames.{is_place, file_no_record, div_small}
+use Rattle.site_core.proofs.SaveMoves.{no_file_shut}
+use Rattle.site_core.proofs.LeftFiles.{none_shut, none_sealed, none_sealed_on, none_sealed_gone, alike_partly, sync_partly}
+use Rattle.site_core.proofs.RecordFiles.{alike_cells, synced_rest, node_small}
 use Rattle.site_core.proofs.Saving.{place_of_node}
 use Rattle.site_core.proofs.SaveEnds.{none-passes, none-if}
 use Rattle.site_core.proofs.Halts.{halt_same}
@@ -97,6 +105,7 @@ record IsWhole (c : Core) (m : Manifest) (refusal : Option Refusal) (states : �
   pub files : FilesHold c (cells_of states)
   pub mended : list_any mends c.kept ≡ false
   pub sealed : list_any seals c.kept ≡ false
+  pub unsealed : NoneSealed m.desc.which states
   pub quiet : (p : ℕ) (q : List ℕ) → p ≤ 32 → (p < c.shape.nodes → IsOfDataset m.desc.which q → ⊥) → IsAtRest ((states p).file q)
 
 begins_by : (first : Machine) (c : Core) (programs : List (List Step)) (states : ℕ → DeviceState) (events : List Event) (m : Manifest) (which : DataId) (refusal : Option Refusal) → which ≡ m.desc.which → IsWhole c m refusal states
@@ -124,6 +133,7 @@ begins_by first c programs states events m which refusal is h run so_far =
           future = h.files.future;
           mended = h.mended;
           sealed = h.sealed;
+          unsealed = h.unsealed;
           removed = λ node p home gone. not_both (nat_lt node 0) gone (lt-zero node);
           quiet = λ p q low calm. h.quiet p q low (λ lt of. calm lt (lt-zero p) of);
         };
@@ -132,6 +142,7 @@ begins_by first c programs states events m which refusal is h run so_far =
         work = (refl, tt);
       };
       told = so_far;
+      left = tt;
     }
 
 -- the ranks ask for the removal
@@ -141,6 +152,7 @@ dropping_begins first c programs states events which at round leads =
     let h = led first c programs states events (ap is_up at) leads in
     let working : WorkIs stage.Serving c states = subst (λ (s : Stage). WorkIs s c states) at h.working in
     let quiet = subst (λ (s : Stage). (p : ℕ) (q : List ℕ) → p ≤ 32 → (p < c.shape.nodes → IsPending s c q → ⊥) → IsAtRest ((states p).file q)) at h.quiet in
+    let none : NoRecordYet stage.Serving c (cells_of states) = subst (λ (s : Stage). NoRecordYet s c (cells_of states)) at h.unrecorded in
     begins_by first c programs states events round.set which None round.which_is (record {
       opened = round.opened;
       complete = round.complete;
@@ -152,12 +164,19 @@ dropping_begins first c programs states events which at round leads =
       files = h.files;
       mended = working.0;
       sealed = working.1;
+      unsealed = λ p node low at. rest_shut ((states p).file (record_name round.set.desc.which node)) 1 (quiet p (record_name round.set.desc.which node) (omega (arith, low)) (λ lt pending. no_record_file node at pending.0 pending.2))
+          (none_shut (cells_of states p (record_name round.set.desc.which node)) 1 (none round.set round.opened p node low at));
       quiet = λ p q low calm. quiet p q low (λ lt pending. calm lt (of_set pending.0 pending.1 pending.2));
     }) h.run h.so_far where
+      no_record_file : (node : ℕ) → IsPlace round.set.desc.which node → (x : Manifest) → Rattle.site_core.specs.Holds.IsFileOf c x (record_name round.set.desc.which node) → ⊥
+      no_record_file node place x file =
+          let of = is_place x.desc 0 (omega arith) in
+          file_no_record x.desc.which round.set.desc.which c.shape.ranks file.0 file.1 node (record { id = of.id; run = of.run; rank_is = file.2; file = file.3 }) place (sym file.4)
+
       of_set : {q : List ℕ} (x : Manifest) → c.opened ≡ Some x → Rattle.site_core.specs.Holds.IsFileOf c x q → IsOfDataset round.set.desc.which q
       of_set {q} x opened file =
           let same : x ≡ round.set = some_same x round.set (sym opened ∙ round.opened) in
-          (file.0 / c.shape.ranks, subst (λ (name : List ℕ). IsNameOf round.set.desc.which (file.0 / c.shape.ranks) name) (sym (file.4 ∙ ap (λ (y : Manifest). Rattle.site_core.specs.Stored.file_name y.desc.which c.shape.ranks file.0 file.1) same)) (file_of round.set.desc.which c.shape.ranks file.0 file.1 file.2 file.3))
+          (file.0 / c.shape.ranks, div_small file.0 c.shape.ranks file.2, subst (λ (name : List ℕ). IsNameOf round.set.desc.which (file.0 / c.shape.ranks) name) (sym (file.4 ∙ ap (λ (y : Manifest). Rattle.site_core.specs.Stored.file_name y.desc.which c.shape.ranks file.0 file.1) same)) (file_of round.set.desc.which c.shape.ranks file.0 file.1 file.2 file.3))
 
 -- ## A device refuses the round while records are written
 
@@ -167,8 +186,8 @@ is_open_one w n c m x opened (inr s) = absurd (cc (opened, s.0))
 
 carried : (first : Machine) (c : Core) (programs : List (List Step)) (states after : ℕ → DeviceState) (events : List Event) (w : Work) (n : ℕ) (m : Manifest) (refusal : Refusal) → c.opened ≡ Some m → is_fault (reply.Refused refusal) ≡ true
     → IsSaving first c programs states events w n m → cells_of after ≡ cells_of states → ((p : ℕ) (q : List ℕ) → (p ≡ n → q ≢ record_name m.desc.which n) → IsAtRest ((states p).file q) → IsAtRest ((after p).file q))
-    → Leads first (dropping_core c m.desc.which (Some refusal)) programs after events
-carried first c programs states after events w n m refusal opened fault h same rest =
+    → NoneSealed m.desc.which after → Leads first (dropping_core c m.desc.which (Some refusal)) programs after events
+carried first c programs states after events w n m refusal opened fault h same rest none =
     begins_by first c programs after events m m.desc.which (Some refusal) refl (record {
       opened = opened;
       complete = h.saves.round.complete;
@@ -180,31 +199,49 @@ carried first c programs states after events w n m refusal opened fault h same r
       files = subst (λ (cells : Cells). FilesHold c cells) (sym same) h.files;
       mended = h.mended;
       sealed = none-if seals c.kept (λ i x at. unsealed i x at (is_being_sealed x.mark) refl);
-      quiet = λ p q low calm. rest p q (λ here is. calm (omega (arith, here, h.saves.below)) (n, inl is)) (h.quiet p q low (λ lt pending. calm lt (of_set q pending.0 pending.1 pending.2)));
+      unsealed = none;
+      quiet = λ p q low calm. rest p q (λ here is. calm (omega (arith, here, h.saves.below)) (n, omega (arith, h.saves.below, few_nodes c.shape), inl is)) (h.quiet p q low (λ lt pending. calm lt (of_set q pending.0 pending.1 pending.2)));
     }) (subst (λ (cells : Cells). RunsTo (setup_of c) first events (running (contents_of cells c) c)) (sym same) h.run) h.so_far where
       unsealed : (i : ℕ) (x : Cached) → slice_get c.kept i ≡ Some x → (b : Bool) → is_being_sealed x.mark ≡ b → seals x ≡ false
       unsealed i x at false e = e
       unsealed i x at true e = absurd (kept_other c m x.manifest h.well opened (i, x, at, refl) (ap (λ (y : Manifest). y.desc.which) (h.saves.one i x at e)))
 
-      of_set : (q : List ℕ) (x : Manifest) → IsSaved w n c x → Rattle.site_core.specs.Holds.IsFileOf c x q ⊎ ((node : ℕ) × (q ≡ record_name x.desc.which node)) → IsOfDataset m.desc.which q
+      of_set : (q : List ℕ) (x : Manifest) → IsSaved w n c x → Rattle.site_core.specs.Holds.IsFileOf c x q ⊎ ((node : ℕ) × (node < 2 ^ 8) × (q ≡ record_name x.desc.which node)) → IsOfDataset m.desc.which q
       of_set q x saved (inl file) =
           let one : x ≡ m = is_open_one w n c m x opened saved in
-          (file.0 / c.shape.ranks, subst (λ (name : List ℕ). IsNameOf m.desc.which (file.0 / c.shape.ranks) name) (sym (file.4 ∙ ap (λ (y : Manifest). Rattle.site_core.specs.Stored.file_name y.desc.which c.shape.ranks file.0 file.1) one)) (file_of m.desc.which c.shape.ranks file.0 file.1 file.2 file.3))
+          (file.0 / c.shape.ranks, div_small file.0 c.shape.ranks file.2, subst (λ (name : List ℕ). IsNameOf m.desc.which (file.0 / c.shape.ranks) name) (sym (file.4 ∙ ap (λ (y : Manifest). Rattle.site_core.specs.Stored.file_name y.desc.which c.shape.ranks file.0 file.1) one)) (file_of m.desc.which c.shape.ranks file.0 file.1 file.2 file.3))
       of_set q x saved (inr is) =
           let one : x ≡ m = is_open_one w n c m x opened saved in
-          (is.0, inl (is.1 ∙ ap (λ (y : Manifest). record_name y.desc.which is.0) one))
+          (is.0, is.1, inl (is.2 ∙ ap (λ (y : Manifest). record_name y.desc.which is.0) one))
 
 module _ (first : Machine) (c : Core) (programs : List (List Step)) (states after : ℕ → DeviceState) (events : List Event) (n : ℕ) (m : Manifest) (place : ℕ) (home : slice_get c.places n ≡ Some place) (refusal : Refusal) (opened : c.opened ≡ Some m) (fault : is_fault (reply.Refused refusal) ≡ true) where
   -- a record's write was refused
-  pub carried_write : IsSaving first c programs states events work.Record n m → OnlyAt place (Refused (record_name m.desc.which n)) states after → Leads first (dropping_core c m.desc.which (Some refusal)) programs after events
+  pub carried_write : IsSaving first c programs states events work.Record n m → OnlyAt place (Unrecorded (record_name m.desc.which n)) states after → Leads first (dropping_core c m.desc.which (Some refusal)) programs after events
   carried_write h done =
-      carried first c programs states after events work.Record n m refusal opened fault h (cells_alike place states after done.here.alike done.others)
-      (λ p q other rest. refused_rest place states after (record_name m.desc.which n) done p q (λ is. other (is ∙ (place_of_node c n place h.well home).0)) rest)
+      carried first c programs states after events work.Record n m refusal opened fault h (cells_alike place states after done.here.refused.alike done.others)
+      (λ p q other rest. refused_rest place states after (record_name m.desc.which n) (record { here = done.here.refused; others = done.others }) p q (λ is. other (is ∙ (place_of_node c n place h.well home).0)) rest)
+      (λ p node low at. pick p node at (none_sealed work.Record n c m states refl h.files h.saves.leaves p node low at) (cases_eq p place) (cases_eq node n)) where
+        name : ℕ → List ℕ
+        name node = record_name m.desc.which node
+
+        was : cells_of states place (name n) ≡ None
+        was = subst (λ (b : Bool). RecordAt b (cells_of states place (name n)) m n false false) (lt-self n) (h.saves.records n place home)
+
+        written : StaysShut ((after place).file (name n)) 1
+        written = body_shut ((after place).file (name n)) 1 (omega arith) (done.here.shut (no_file_shut ((states place).file (name n)) was (h.saves.clean n place home (lt-self n))))
+
+        pick : (p node : ℕ) → IsPlace m.desc.which node → StaysShut ((states p).file (name node)) 1 → (p ≡ place) ⊎ (p ≢ place) → (node ≡ n) ⊎ (node ≢ n) → StaysShut ((after p).file (name node)) 1
+        pick p node at shut (inr away) _ = subst (λ (d : DeviceState). StaysShut (d.file (name node)) 1) (sym (done.others p away)) shut
+        pick p node at shut (inl is) (inl same) = subst (λ (x : ℕ). StaysShut ((after x).file (name node)) 1) (sym is) (subst (λ (k : ℕ). StaysShut ((after place).file (name k)) 1) (sym same) written)
+        pick p node at shut (inl is) (inr other) = subst (λ (x : ℕ). StaysShut ((after x).file (name node)) 1) (sym is)
+            (subst (λ (f : OneFile). StaysShut f 1) (sym (done.here.only.others (name node) (λ e. other (records-same m.desc.which m.desc.which node n at (is_place m.desc n (node_small c n place h.well home)) e).node_is)))
+            (subst (λ (x : ℕ). StaysShut ((states x).file (name node)) 1) is shut))
 
   -- its sync was
   pub carried_sync : IsSaving first c programs states events work.RecordSync n m → OnlyAt place KeptAlike states after → Leads first (dropping_core c m.desc.which (Some refusal)) programs after events
   carried_sync h done =
       carried first c programs states after events work.RecordSync n m refusal opened fault h (cells_alike place states after done.here.alike done.others) (λ p q other rest. alike_rest place states after done p q rest)
+      (none_sealed_on m.desc.which states after (alike_partly place states after done) (none_sealed work.RecordSync n c m states refl h.files h.saves.leaves))
 
 -- ## A file goes
 
@@ -215,7 +252,7 @@ no_record f told none = pick f.now refl where
   pick (Some bytes) e = absurd (cc (sym none ∙ told ∙ ap (λ (o : Option (List ℕ)). option_map length o) e))
 
 module _ (c : Core) (states after : ℕ → DeviceState) (m : Machine) (gone settled : ℕ → Bool) (h : IsLeavingAt gone settled c states m) (n : ℕ) (lt : n < c.shape.nodes) (unsettled : settled n ≡ false)
-    (done : OnlyAt n (RemovesAtMost h.set.desc.which n) states after) where
+    (done : OnlyAt n (RemovesAtMost h.set.desc.which n) states after) (sound : (p : ℕ) → IsSound (states p)) where
   small : n < 2 ^ 8
   small = omega (arith, lt, few_nodes c.shape)
 
@@ -241,12 +278,13 @@ module _ (c : Core) (states after : ℕ → DeviceState) (m : Machine) (gone set
     future = future_gone c h.set n n (cells_of states) (cells_of after) h.well h.opened small low_place loss c.run c.next h.future;
     mended = h.mended;
     sealed = h.sealed;
+    unsealed = none_sealed_gone h.set.desc.which h.set.desc.which n n states after sound done h.unsealed;
     removed = removed;
-    quiet = λ p q low calm. others_rest h.set.desc.which n n states after done p q (λ is of. calm (omega (arith, is, lt)) (ap settled is ∙ unsettled) (n, of)) (h.quiet p q low calm);
+    quiet = λ p q low calm. others_rest h.set.desc.which n n states after done p q (λ is of. calm (omega (arith, is, lt)) (ap settled is ∙ unsettled) (n, small, of)) (h.quiet p q low calm);
   }
 
 module _ (first : Machine) (c : Core) (programs : List (List Step)) (states after : ℕ → DeviceState) (events : List Event) (n place : ℕ) (at : c.stage ≡ stage.Dropping drop.File n) (home : slice_get c.places n ≡ Some place) (leads : Leads first c programs states events)
-    (r : Leaving) (which_is : r.which ≡ c.removal.which) (node_is : r.node ≡ c.removal.node) (over : Bool) (done : OnlyAt place (FileDropped c.removal.which c.removal.node over c.removal.changes r.changes) states after) where
+    (r : Leaving) (which_is : r.which ≡ c.removal.which) (node_is : r.node ≡ c.removal.node) (over : Bool) (done : OnlyAt place (FileDropped c.removal.which c.removal.node over c.removal.changes r.changes) states after) (steady : (p : ℕ) → IsSound (states p)) where
   abbrev dropping : IsDropping drop.File n c states leads.state
   dropping = (dropping_at first c programs states events drop.File n at leads).0
 
@@ -273,7 +311,7 @@ module _ (first : Machine) (c : Core) (programs : List (List Step)) (states afte
   file_dropped =
       let d : Core = record c { removal = r } in
       let holds : IsDropping drop.File n d after leads.state = record {
-        leaves = leaves_on c states after leads.state (is_gone_at drop.File n) (λ node. nat_lt node n) dropping.leaves n dropping.below (lt-self n) at_most c.stage r (is_gone_at drop.File n) gone_still;
+        leaves = leaves_on c states after leads.state (is_gone_at drop.File n) (λ node. nat_lt node n) dropping.leaves n dropping.below (lt-self n) at_most steady c.stage r (is_gone_at drop.File n) gone_still;
         below = dropping.below;
         which_is = which_is ∙ dropping.which_is;
         work = (node_is ∙ dropping.work.0, here.here.goes dropping.work.1);
@@ -283,6 +321,7 @@ module _ (first : Machine) (c : Core) (programs : List (List Step)) (states afte
         run = leads.run;
         holds = subst (λ (s : Stage). HoldsAt s d after leads.state) (sym at) holds;
         told = leads.told;
+        left = subst (λ (s : Stage). LeftAt s (setup_of c) first c.places after events) (sym at) tt;
       }
 
   -- it was the last
@@ -292,12 +331,13 @@ module _ (first : Machine) (c : Core) (programs : List (List Step)) (states afte
     state = leads.state;
     run = leads.run;
     holds = record {
-      leaves = leaves_on c states after leads.state (is_gone_at drop.File n) (λ node. nat_lt node n) dropping.leaves n dropping.below (lt-self n) at_most (stage.Dropping drop.Sync n) r (is_gone_at drop.Sync n) (λ node p h gone. gone_now node p h gone (cases_eq node n));
+      leaves = leaves_on c states after leads.state (is_gone_at drop.File n) (λ node. nat_lt node n) dropping.leaves n dropping.below (lt-self n) at_most steady (stage.Dropping drop.Sync n) r (is_gone_at drop.Sync n) (λ node p h gone. gone_now node p h gone (cases_eq node n));
       below = dropping.below;
       which_is = which_is ∙ dropping.which_is;
       work = tt;
     };
     told = so_far;
+    left = tt;
   } where
     none : HasNoFile which n (after n)
     none = (here.here.none_left dropping.work.1).0 is_over
@@ -335,6 +375,7 @@ module _ (c : Core) (states after : ℕ → DeviceState) (m : Machine) (gone set
         future = subst (λ (cells : Cells). Rattle.site_core.specs.Stored.NoFutureFiles cells c.run c.next) (sym same) h.future;
         mended = h.mended;
         sealed = h.sealed;
+        unsealed = none_sealed_on h.set.desc.which states after (sync_partly n states after done) h.unsealed;
         removed = λ node p home is. ap (λ (cells : Cells). cells p (record_name h.set.desc.which node)) same ∙ h.removed node p home (went node (place_of_node c node p h.well home).1 is);
         quiet = λ p q low calm. pick p q low calm (cases_eq p n);
       } where
@@ -381,6 +422,7 @@ module _ (first : Machine) (c : Core) (programs : List (List Step)) (states afte
       work = (refl, tt);
     };
     told = (dropping_at first c programs states events drop.Sync n at leads).1;
+    left = tt;
   }
 
   all_gone : n + 1 ≡ c.shape.nodes → Leads first (record c { stage = stage.Dropped }) programs after events
@@ -389,6 +431,7 @@ module _ (first : Machine) (c : Core) (programs : List (List Step)) (states afte
     run = leads.run;
     holds = leaves_synced c states after leads.state (is_gone_at drop.Sync n) (λ node. nat_lt node n) syncing.leaves n synced_here stage.Dropped c.removal (λ node. true) (λ node. true) (λ node lt is. up_to_last node n c.shape.nodes lt last) (λ p lt other un. absurd (none_after p n c.shape.nodes lt other un last));
     told = (dropping_at first c programs states events drop.Sync n at leads).1;
+    left = tt;
   }
 
   pub removal_synced : Leads first (if nat_lt n (c.shape.nodes - 1) then next_drop_core c (n + 1) else record c { stage = stage.Dropped }) programs after events

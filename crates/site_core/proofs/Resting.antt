@@ -18,7 +18,7 @@ use Rattle.site_core.specs.declared.core_state.Stage.{Stage}
 use Rattle.site_core.specs.Cores.{IsNewCore}
 use Rattle.site_core.specs.Shown.{Contents, setup_of, kept_of}
 use Rattle.site_core.specs.Stored.{cells_of, run_number}
-use Rattle.site_core.specs.Holds.{HoldsAt, ToldAt, Leads, StandsFor, HasRest, IsOneOf, settled_set, IsBegun}
+use Rattle.site_core.specs.Holds.{HoldsAt, ToldAt, LeftAt, Leads, StandsFor, HasRest, IsOneOf, settled_set, IsBegun}
 use Rattle.site_core.proofs.Halts.{halt_same}
 use Rattle.site_core.proofs.Stored.{others_after, future_after, contents_after, files_after, records_after}
 use Rattle.site_core.proofs.Ending.{crashed}
@@ -45,6 +45,7 @@ begun_leads first shape config c programs states events new none stands =
       run = subst (λ (es : List Event). RunsTo (setup_of c) first es first) (sym none) refl;
       holds = subst (λ (s : Stage). HoldsAt s c states first) (sym new.stage_is) begun;
       told = subst (λ (s : Stage). ToldAt s c.places programs events) (sym new.stage_is) none;
+      left = subst (λ (s : Stage). LeftAt s (setup_of c) first c.places states events) (sym new.stage_is) tt;
     }
 
 module _ (s : Setup) (states after : ℕ → DeviceState) (m : Machine) (crash : (p : ℕ) → p ≤ 32 → Crashes (states p) (after p)) (tells : (p : ℕ) → p ≤ 32 → (after p).tells ≡ true) where

@@ -14,7 +14,8 @@ use Rattle.node_device.specs.File.{IsAtRest}
 use Rattle.node_device.specs.DeviceState.{DeviceState}
 use Rattle.node_device.specs.Rack.{OnlyAt}
 use Rattle.dataset_desc.specs.declared.desc.Desc.{Desc}
-use Rattle.member_store.specs.Names.{record_name}
+use Rattle.member_store.specs.Names.{record_name, IsPlace}
+use Rattle.gate_outcomes.proofs.Stays.{rest_shut}
 use Rattle.ckpt_model.specs.declared.event.Event.{Event}
 use Rattle.ckpt_model.specs.declared.event.Event.TheVariants as event
 use Rattle.ckpt_model.specs.Machine.{Machine}
@@ -33,12 +34,14 @@ use Rattle.site_core.specs.Shown.{running, setup_of, mends, come_to, settled_if}
 use Rattle.site_core.specs.Choosing.{is_being_sealed, seals, AscendFrom, AreBelow}
 use Rattle.site_core.specs.Calls.{Synced}
 use Rattle.site_core.specs.Stored.{Cells, cells_of, contents_of, RecordIs, RecordsStand, IsKnown, IsWell, FilesHold}
+use Rattle.site_core.specs.Left.{is_sealing_work}
 use Rattle.site_core.specs.Holds.{Leads, IsSaved, IsSaveRound, RecordAt, IsPending, IsFileOf, WorkIs, NoRecordYet}
 use Rattle.site_core.proofs.Told.{is_up, led, leads_up, tells_more}
 use Rattle.site_core.proofs.Frames.{is_place, file_no_record}
 use Rattle.site_core.proofs.Puts.{few_nodes, kept_other}
 use Rattle.site_core.proofs.RecordFiles.{alike_cells, synced_rest, node_small}
 use Rattle.site_core.proofs.Saving.{place_of_node}
+use Rattle.site_core.proofs.LeftFiles.{none_shut}
 use Rattle.site_core.specs.Holds.{IsSaving}
 use Rattle.site_core.proofs.Seals.{sealing, settles}
 
@@ -83,11 +86,20 @@ begins_saving first c programs states events m at leads opened round some =
       saves = record {
         round = round;
         below = some;
+        open_yet = λ early. opened;
         apart = λ i x is sealed. kept_other c m x.manifest h.well opened (i, x, is, refl);
         one = λ i x is sealed. absurd (cc (none-passes seals c.kept i x working.1 is, sealed));
         records = λ node p home. subst (λ (b : Bool). RecordAt b (((states p).file (record_name m.desc.which node)).now) m node false false) (sym (none_below node)) (none m opened p node (low h.well node p home) (is_place m.desc node (node_small c node p h.well home)));
         clean = λ node p home written. quiet p (record_name m.desc.which node) (omega (arith, low h.well node p home)) (λ on pending. no_file h.well node p home pending);
         quiet = λ node p q home calm. absurd (cc (all_pending node, calm));
+        leaves = record {
+          elsewhere = λ p node lt at off. quiet p (record_name m.desc.which node) (omega (arith, lt)) (λ on pending. no_record_file node at pending);
+          parts = λ node p q home calm other. absurd (cc (all_pending node, calm));
+          unsealed = λ early node p home. rest_shut ((states p).file (record_name m.desc.which node)) 1
+              (quiet p (record_name m.desc.which node) (omega (arith, low h.well node p home)) (λ on pending. no_file h.well node p home pending))
+              (none_shut (cells_of states p (record_name m.desc.which node)) 1 (none m opened p node (low h.well node p home) (is_place m.desc node (node_small c node p h.well home))));
+          whole = λ late. absurd (cc late);
+        };
       };
       mended = working.0;
     } where
@@ -100,12 +112,15 @@ begins_saving first c programs states events m at leads opened round some =
       low : IsWell c → (node p : ℕ) → slice_get c.places node ≡ Some p → p < 32
       low well node p home = let at = place_of_node c node p well home in omega (arith, at.0, at.1, few_nodes c.shape)
 
-      no_file : IsWell c → (node p : ℕ) → slice_get c.places node ≡ Some p → ((x : Manifest) × (c.opened ≡ Some x) × IsFileOf c x (record_name m.desc.which node)) → ⊥
-      no_file well node p home pending =
+      no_record_file : (node : ℕ) → IsPlace m.desc.which node → ((x : Manifest) × (c.opened ≡ Some x) × IsFileOf c x (record_name m.desc.which node)) → ⊥
+      no_record_file node at pending =
           let x = pending.0 in
           let file = pending.2 in
           let of = is_place x.desc 0 (omega arith) in
-          file_no_record x.desc.which m.desc.which c.shape.ranks file.0 file.1 node (record { id = of.id; run = of.run; rank_is = file.2; file = file.3 }) (is_place m.desc node (node_small c node p well home)) (sym file.4)
+          file_no_record x.desc.which m.desc.which c.shape.ranks file.0 file.1 node (record { id = of.id; run = of.run; rank_is = file.2; file = file.3 }) at (sym file.4)
+
+      no_file : IsWell c → (node p : ℕ) → slice_get c.places node ≡ Some p → ((x : Manifest) × (c.opened ≡ Some x) × IsFileOf c x (record_name m.desc.which node)) → ⊥
+      no_file well node p home pending = no_record_file node (is_place m.desc node (node_small c node p well home)) pending
 
 -- ## The sealing
 
@@ -142,9 +157,9 @@ any-push test (y ∷ ys) x e f =
 id_some : (d : Desc) → 1 ≤ d.which.id
 id_some d = grind (arith, nat_tests, d.ranges)
 
-pub seal_told : (first : Machine) (c : Core) (programs : List (List Step)) (states : ℕ → DeviceState) (events events' : List Event) (w : Work) (n : ℕ) (m : Manifest) → IsSaving first c programs states events w n m → c.opened ≡ Some m
+pub seal_told : (first : Machine) (c : Core) (programs : List (List Step)) (states : ℕ → DeviceState) (events events' : List Event) (w : Work) (n : ℕ) (m : Manifest) → IsSaving first c programs states events w n m → is_sealing_work w ≡ true → c.opened ≡ Some m
     → events' ≡ events ++ event.Sealing m.desc.which ∷ [] → IsSaving first (sealed_core c m) programs states events' w n m
-seal_told first c programs states events events' w n m h opened more =
+seal_told first c programs states events events' w n m h late opened more =
     let d = sealed_core c m in
     let x = sealing_one m in
     let bytes = contents_of (cells_of states) c in
@@ -177,11 +192,13 @@ seal_told first c programs states events events' w n m h opened more =
       saves = record {
         round = record { complete = h.saves.round.complete; valid = h.saves.round.valid; first = h.saves.round.first; clear = h.saves.round.clear; all = h.saves.round.all };
         below = h.saves.below;
+        open_yet = λ early. absurd (cc (late, early));
         apart = λ i y at sealed. apart_after i y at sealed (last-or-before c.kept x y i at);
         one = λ i y at sealed. one_after i y at sealed (last-or-before c.kept x y i at);
         records = h.saves.records;
         clean = h.saves.clean;
         quiet = h.saves.quiet;
+        leaves = h.saves.leaves;
       };
       mended = any-push mends c.kept x h.mended refl;
     } where

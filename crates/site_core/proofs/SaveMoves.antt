@@ -7,6 +7,7 @@ use Rattle.node_device.specs.File.{File, IsAtRest, MayLeave, bytes_of}
 use Rattle.node_device.specs.DeviceState.{DeviceState, IsSound}
 use Rattle.node_device.specs.Rack.{OnlyAt}
 use Rattle.gated_record.specs.Record.{HasShutGates, AreShut}
+use Rattle.gate_outcomes.proofs.Stays.{body_shut, torn_shut}
 use Rattle.member_store.specs.Names.{record_name}
 use Rattle.member_store.specs.Members.{member_body}
 use Rattle.ckpt_model.specs.declared.event.Event.{Event}
@@ -20,6 +21,7 @@ use Rattle.site_core.specs.Holds.{RecordAt}
 use Rattle.site_core.proofs.RecordFiles.{body_stays, opened_gate, other_gate, shut_gate}
 use Rattle.site_core.proofs.Saving.{save_put, save_sync, place_of_node}
 use Rattle.site_core.specs.Holds.{IsSaving}
+use Rattle.site_core.proofs.LeftFiles.{has_byte, turned_whole}
 use Rattle.site_core.proofs.Puts.{few_nodes}
 
 -- ## Numbers of nodes
@@ -72,7 +74,7 @@ eq-pending i n = pick (Rattle.std.proofs.lemmas.Bool.cases_eq i n) where
 -- ## Records
 
 -- where there is nothing, and nothing can come back, no gate is open
-no_file_shut : (f : File) → f.now ≡ None → IsAtRest f → HasShutGates f
+pub no_file_shut : (f : File) → f.now ≡ None → IsAtRest f → HasShutGates f
 no_file_shut f none rest = record { shut = pick; untouched = λ gate lt. rest.untouched gate } where
   short : f.greatest ≡ 0
   short = rest.greatest ∙ ap (λ (o : Option (List ℕ)). length (bytes_of o)) none
@@ -108,9 +110,15 @@ module _ (first : Machine) (c : Core) (programs : List (List Step)) (states afte
         whole = λ i lt other. refl;
         sealed = λ i lt other. refl;
         pending = λ i lt other calm. calm;
+        fills = λ i calm. calm;
+        sealing = refl;
       })
       (subst (λ (b : Bool). RecordAt b (cells_of after place (record_name m.desc.which n)) m n false false) (sym (le-self n)) is)
       (le-self n) (le-self n)
+      (record {
+        unsealed = λ early. body_shut ((after place).file (record_name m.desc.which n)) 1 (omega arith) (done.here.shut (no_file_shut ((states place).file (record_name m.desc.which n)) was clean));
+        whole = λ late. absurd (cc late);
+      })
 
   pub whole_turned : IsSaving first c programs states events work.Whole n m → OnlyAt place (Turned (record_name m.desc.which n) 0) states after → Tells states
       → IsSaving first c programs after events work.WholeSync n m
@@ -129,9 +137,16 @@ module _ (first : Machine) (c : Core) (programs : List (List Step)) (states afte
         whole = λ i lt other. le-lt i n other;
         sealed = λ i lt other. refl;
         pending = λ i lt other calm. refl;
+        fills = λ i calm. refl;
+        sealing = refl;
       })
       (subst (λ (b : Bool). RecordIs (cells_of after place (record_name m.desc.which n)) m n b false) (sym (le-self n)) (subst (λ (o : Option (List ℕ)). RecordIs o m n true false) (sym put) is))
       refl (eq-self n)
+      (record {
+        unsealed = λ early. torn_shut 0 1 ((states place).file (record_name m.desc.which n)) ((after place).file (record_name m.desc.which n)) (λ e. absurd (omega (arith, e)))
+            (has_byte ((states place).file (record_name m.desc.which n)) (member_body m.desc n m.files) 0 (omega arith) (h.saves.quiet n place (record_name m.desc.which n) home refl) was.body) done.here.torn (h.saves.leaves.unsealed refl n place home);
+        whole = λ late. absurd (cc late);
+      })
 
   pub sealed_turned : IsSaving first c programs states events work.Sealed n m → OnlyAt place (Turned (record_name m.desc.which n) 1) states after → Tells states
       → IsSaving first c programs after events work.SealedSync n m
@@ -150,9 +165,16 @@ module _ (first : Machine) (c : Core) (programs : List (List Step)) (states afte
         whole = λ i lt other. refl;
         sealed = λ i lt other. le-lt i n other;
         pending = λ i lt other calm. refl;
+        fills = λ i calm. refl;
+        sealing = refl;
       })
       (subst (λ (b : Bool). RecordIs (cells_of after place (record_name m.desc.which n)) m n true b) (sym (le-self n)) (subst (λ (o : Option (List ℕ)). RecordIs o m n true true) (sym put) is))
       refl (eq-self n)
+      (record {
+        unsealed = λ early. absurd (cc early);
+        whole = λ late. turned_whole ((states place).file (record_name m.desc.which n)) ((after place).file (record_name m.desc.which n)) (member_body m.desc n m.files)
+            (has_byte ((states place).file (record_name m.desc.which n)) (member_body m.desc n m.files) 1 (omega arith) (h.saves.quiet n place (record_name m.desc.which n) home refl) was.body) done.here.torn (h.saves.leaves.whole refl n place home);
+      })
 
   -- ## Syncs
 
@@ -162,6 +184,9 @@ module _ (first : Machine) (c : Core) (programs : List (List Step)) (states afte
     whole = λ i lt. refl;
     sealed = λ i lt. refl;
     pending = λ i lt calm. next-pending i n calm;
+    fills = λ i lt calm. next-pending i n calm;
+    shut = λ early. refl;
+    whole_then = λ late. absurd (cc late);
     below = more;
   })
 
@@ -171,6 +196,9 @@ module _ (first : Machine) (c : Core) (programs : List (List Step)) (states afte
     whole = λ i lt. lt-zero i;
     sealed = λ i lt. refl;
     pending = λ i lt calm. last-pending i n c.shape.nodes lt last;
+    fills = λ i lt calm. last-pending i n c.shape.nodes lt last;
+    shut = λ early. refl;
+    whole_then = λ late. absurd (cc late);
     below = omega (arith, last);
   })
 
@@ -180,6 +208,9 @@ module _ (first : Machine) (c : Core) (programs : List (List Step)) (states afte
     whole = λ i lt. lt-next i n;
     sealed = λ i lt. refl;
     pending = λ i lt calm. eq-pending i n;
+    fills = λ i lt calm. inr refl;
+    shut = λ early. refl;
+    whole_then = λ late. absurd (cc late);
     below = more;
   })
 
@@ -189,6 +220,9 @@ module _ (first : Machine) (c : Core) (programs : List (List Step)) (states afte
     whole = λ i lt. sym (le-last i n c.shape.nodes lt last);
     sealed = λ i lt. lt-zero i;
     pending = λ i lt calm. eq-pending i n;
+    fills = λ i lt calm. inr refl;
+    shut = λ early. refl;
+    whole_then = λ late. inr (record { written = λ i lt. refl; opened = λ i lt. refl; calm = λ i lt. refl });
     below = omega (arith, last);
   })
 
@@ -198,5 +232,8 @@ module _ (first : Machine) (c : Core) (programs : List (List Step)) (states afte
     whole = λ i lt. refl;
     sealed = λ i lt. lt-next i n;
     pending = λ i lt calm. eq-pending i n;
+    fills = λ i lt calm. inr refl;
+    shut = λ early. absurd (cc early);
+    whole_then = λ late. inl refl;
     below = more;
   })

@@ -39,7 +39,7 @@ use Rattle.site_core.specs.Calls.{Tells}
 use Rattle.site_core.specs.Numbers.{IsNumberFile, Way}
 use Rattle.site_core.specs.Shown.{Contents, setup_of, kept_of, begun}
 use Rattle.site_core.specs.Stored.{cells_of, contents_of, contents_in, is_named, place_of_rank, file_name, run_number, FilesStand, FileStands, RecordsStand, RecordIs, NoOtherRecords, NoFutureFiles, IsFuture}
-use Rattle.site_core.specs.Holds.{HoldsAt, Leads, IsOneOf, settled_set, IsStoring, IsSoFar}
+use Rattle.site_core.specs.Holds.{HoldsAt, LeftAt, Leads, IsOneOf, settled_set, IsStoring, IsSoFar}
 use Rattle.site_core.proofs.Halts.{halt_apart}
 use Rattle.site_core.proofs.Puts.{place_is, few_nodes}
 use Rattle.site_core.proofs.Numbering.{storing_at, told_storing}
@@ -149,6 +149,7 @@ stepped first c programs states after events over way at same done leads =
       run = leads.run;
       holds = subst (λ (s : Stage). HoldsAt s d after m) (sym at) holds;
       told = leads.told;
+      left = subst (λ (s : Stage). LeftAt s (setup_of c) first c.places after events) (sym at) tt;
     } where
       pick : (p : ℕ) (q : List ℕ) → p ≤ 32 → (p ≡ 32 → IsNumberFile q → ⊥) → (p ≡ 32) ⊎ (p ≢ 32) → IsAtRest ((states p).file q) → IsAtRest ((after p).file q)
       pick p q low other (inl is) rest = subst (λ (k : ℕ). IsAtRest ((after k).file q)) (sym is) (done.here.rest q (λ e. other is (inl e)) (λ e. other is (inr e)) (subst (λ (k : ℕ). IsAtRest ((states k).file q)) is rest))
@@ -235,6 +236,7 @@ arrived first c programs states after events events' over way at is_over tells d
         is = refl;
       };
       told = subst (λ (es : List Event). IsSoFar c.places programs es) (sym alone) (record { begin = bytes-same c.places; steps = (tt, tt); goes_on = refl });
+      left = tt;
     } where
       sooner : (which : DataId) → IsFuture (c.run + 1) 0 which → IsFuture c.run 0 which
       sooner which (inl lt) = inl (omega (arith, lt))

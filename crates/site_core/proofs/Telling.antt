@@ -1,5 +1,5 @@
 -- What each place tells, and places that stay as they were.
-use Rattle.std.proofs.Common.{◌≡◌, ◌≢◌, ◌⊎◌, inl, inr, ◌<◌, ◌≤◌, ℕ, true, Result, Ok, Err, OnOk, length, map, get_or, sym, ap, ◌∙◌, subst, arith}
+use Rattle.std.proofs.Common.{◌≡◌, ◌≢◌, ◌⊎◌, inl, inr, ◌<◌, ◌≤◌, ℕ, true, Result, Ok, Err, OnOk, OnErr, length, map, get_or, sym, ap, ◌∙◌, subst, arith}
 use Rattle.std.proofs.lemmas.Bool.{cases_eq}
 use Rattle.std.proofs.lemmas.Bool.Decides.{eqb_tells}
 use Rattle.std.proofs.lemmas.List.{get_or-map, get_or_past}
@@ -31,6 +31,11 @@ same_states place old new done = fun_ext (λ p. pick p (cases_eq p place)) where
   pick : (p : ℕ) → (p ≡ place) ⊎ (p ≢ place) → new p ≡ old p
   pick p (inl is) = subst (λ (q : ℕ). new q ≡ old q) (sym is) done.here
   pick p (inr away) = done.others p away
+
+-- what follows from what holds of a refusal
+pub on_err : {T E : Type 0} (r : Result T E) {P Q : Type 0} → (P → Q) → OnErr r P → OnErr r Q
+on_err (Ok v) f p = tt
+on_err (Err e) f p = f p
 
 -- what follows from what holds of a success
 pub on_ok : {T E : Type 0} (r : Result T E) {P Q : Type 0} → (P → Q) → OnOk r P → OnOk r Q

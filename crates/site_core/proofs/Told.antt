@@ -20,7 +20,7 @@ use Rattle.site_core.specs.declared.core_state.Stage.TheVariants as stage
 use Rattle.site_core.specs.declared.core_state.Core.{Core}
 use Rattle.site_core.specs.Shown.{running, setup_of, served}
 use Rattle.site_core.specs.Stored.{Cells, cells_of, contents_of, FilesHold, IsWell}
-use Rattle.site_core.specs.Holds.{IsUp, HoldsAt, IsSoFar, ToldAt, Leads, WorkIs, NoRecordYet, IsPending}
+use Rattle.site_core.specs.Holds.{IsUp, HoldsAt, IsSoFar, ToldAt, LeftAt, Leads, WorkIs, NoRecordYet, IsPending}
 
 -- recovery has looked, and the run isn't over
 abbrev pub is_up : Stage → Bool
@@ -150,12 +150,25 @@ led first c programs states events up leads =
       working = h.working;
     }
 
+up_left : (s : Stage) (setup : Rattle.ckpt_model.specs.Machine.Setup) (first : Machine) (places : List ℕ) (states : ℕ → DeviceState) (events : List Event) → is_up s ≡ true → LeftAt s setup first places states events
+up_left stage.Begun setup first places states events e = tt
+up_left stage.Storing setup first places states events e = tt
+up_left stage.Looking setup first places states events e = tt
+up_left stage.Stopped setup first places states events e = tt
+up_left (stage.Dropping d n) setup first places states events e = tt
+up_left stage.Dropped setup first places states events e = tt
+up_left stage.Cut setup first places states events e = absurd (cc e)
+up_left stage.Mending setup first places states events e = tt
+up_left stage.Serving setup first places states events e = tt
+up_left (stage.Saving w n) setup first places states events e = tt
+
 pub leads_up : (first : Machine) (c : Core) (programs : List (List Step)) (states : ℕ → DeviceState) (events : List Event) → is_up c.stage ≡ true → IsLed first c programs states events → Leads first c programs states events
 leads_up first c programs states events up h = record {
   state = running (contents_of (cells_of states) c) c;
   run = h.run;
   holds = at_up c.stage c states (running (contents_of (cells_of states) c) c) up (record { is = refl; well = h.well; files = h.files; quiet = h.quiet; unrecorded = h.unrecorded; working = h.working });
   told = up_told c.stage c.places programs events up h.so_far;
+  left = up_left c.stage (setup_of c) first c.places states events up;
 }
 
 -- what was pushed behind what was there

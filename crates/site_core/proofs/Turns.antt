@@ -1,5 +1,5 @@
 -- What a turn told.
-use Rattle.std.proofs.Common.{◌≡◌, ◌⊎◌, sym, subst, true, false, Option, Result, Ok, Err, IfOk, ap, ◌∙◌, inr, ℕ, List, [], ◌∷◌, ◌++◌, arith}
+use Rattle.std.proofs.Common.{◌≡◌, ◌≢◌, ◌⊎◌, inl, refl, sym, subst, true, false, Option, Some, slice_get, Result, Ok, Err, IfOk, ap, ◌∙◌, inr, ℕ, List, [], ◌∷◌, ◌++◌, arith}
 use Rattle.node_device.specs.DeviceState.{DeviceState}
 use Rattle.ckpt_model.specs.declared.event.Event.{Event}
 use Rattle.scr_base.specs.declared.answers.Refusal.{Refusal}
@@ -20,7 +20,19 @@ use Rattle.site_core.specs.declared.core_state.Stage.TheVariants as stage
 use Rattle.site_core.specs.declared.core_state.Work.{Work}
 use Rattle.site_core.specs.Holds.{Leads}
 use Rattle.site_core.proofs.Cuts.{cut_core, cut_early, cut_looking, cut_saving, told_ends}
-use Rattle.site_core.proofs.Works.{saves_now}
+use Rattle.site_core.proofs.Works.{saves_now, saved_is}
+use Rattle.scr_base.specs.declared.shape.DataId.{DataId}
+use Rattle.member_store.specs.Names.{record_name}
+use Rattle.site_core.specs.Cores.{saved_in}
+use Rattle.site_core.specs.declared.core_state.Work.TheVariants as work
+use Rattle.node_device.specs.Rack.{OnlyAt}
+use Rattle.site_core.specs.declared.cache.Manifest.{Manifest}
+use Rattle.site_core.specs.Calls.{KeptAlike, Unturned}
+use Rattle.site_core.specs.Holds.{IsSaving}
+use Rattle.site_core.specs.Shown.{running}
+use Rattle.site_core.specs.Stored.{cells_of, contents_of}
+use Rattle.site_core.specs.Waiting.{is_over}
+use Rattle.site_core.proofs.LeftStages.{IsLeft, stage_left, left_apart, left_alike, whole_refused, sealed_refused, loose_left, loose_of}
 use Rattle.site_core.specs.declared.turn.Turn.{Turn}
 use Rattle.site_core.specs.declared.turn.Turn.TheVariants as turn
 use Rattle.site_core.specs.declared.error.SiteError.{SiteError}
@@ -76,25 +88,70 @@ module _ {D : Type 0} (state : D → DeviceState) (old new : Site D) (t : Troubl
   tells_end T may bay same told why = tells_one IsOfWorker may state old new (event.Stop (cause_of t)) is (ended_by t told)
       (subst (λ (b : Rack D). IsEndedFor may (states_of state old.bay) (states_of state b) (cause_of t)) (sym same) (ended_for T may (states_of state old.bay) (states_of state bay) t why))
 
+  -- what is left after a call that the prefix refused
+  prefix_left : (first : Machine) (bay : Rack D) → new.bay ≡ bay → ((p : ℕ) → p ≢ 32 → states_of state bay p ≡ states_of state old.bay p) → is_over old.core.stage ≡ false → (f : Follows state first old) → IsLeft old.core (states_of state new.bay) f.state
+  prefix_left first bay same apart on f = subst (λ (b : Rack D). IsLeft old.core (states_of state b) f.state) (sym same)
+      (left_apart old.core (states_of state old.bay) (states_of state bay) f.state apart (stage_left old.core.stage old.core (states_of state old.bay) f.state refl on f.holds))
+
+  -- and after a read or a sync that was refused
+  alike_left : (first : Machine) (place : ℕ) (bay : Rack D) → new.bay ≡ bay → OnlyAt place KeptAlike (states_of state old.bay) (states_of state bay) → is_over old.core.stage ≡ false → (f : Follows state first old) → IsLeft old.core (states_of state new.bay) f.state
+  alike_left first place bay same done on f = subst (λ (b : Rack D). IsLeft old.core (states_of state b) f.state) (sym same)
+      (left_alike old.core place (states_of state old.bay) (states_of state bay) f.state done (stage_left old.core.stage old.core (states_of state old.bay) f.state refl on f.holds))
+
+  goes_on : (old.core.stage ≡ stage.Begun) ⊎ (old.core.stage ≡ stage.Storing) → is_over old.core.stage ≡ false
+  goes_on (inl at) = ap is_over at
+  goes_on (inr at) = ap is_over at
+
   module _ (core : new.core ≡ cut_core old.core) (programs : new.programs ≡ old.programs) where
     pub leads_so : (first : Machine) → Leads first (cut_core old.core) old.programs (states_of state new.bay) new.history.events → Follows state first new
     leads_so first l = subst (λ (x : Core). Leads first x new.programs (states_of state new.bay) new.history.events) (sym core) (subst (λ (ps : List (List Step)). Leads first (cut_core old.core) ps (states_of state new.bay) new.history.events) (sym programs) l)
 
-    pub ends_early : (old.core.stage ≡ stage.Begun) ⊎ (old.core.stage ≡ stage.Storing) → is_told t ≡ true → Keeps state old new
-    ends_early at told tells first f = leads_so first (cut_early first old.core old.programs (states_of state old.bay) (states_of state new.bay) old.history.events new.history.events (cause_of t) at (told_ends t told) is f)
+    pub ends_early : (old.core.stage ≡ stage.Begun) ⊎ (old.core.stage ≡ stage.Storing) → is_told t ≡ true → (bay : Rack D) → new.bay ≡ bay → ((p : ℕ) → p ≢ 32 → states_of state bay p ≡ states_of state old.bay p) → Keeps state old new
+    ends_early at told bay same apart tells first f =
+        leads_so first (cut_early first old.core old.programs (states_of state old.bay) (states_of state new.bay) old.history.events new.history.events (cause_of t) at (told_ends t told) is f (prefix_left first bay same apart (goes_on at) f))
 
-    pub ends_looking : old.core.stage ≡ stage.Looking → is_told t ≡ true → Keeps state old new
-    ends_looking at told tells first f = leads_so first (cut_looking first old.core old.programs (states_of state old.bay) (states_of state new.bay) old.history.events new.history.events (cause_of t) at (told_ends t told) is f)
+    pub ends_looking : old.core.stage ≡ stage.Looking → is_told t ≡ true → (place : ℕ) (bay : Rack D) → new.bay ≡ bay → OnlyAt place KeptAlike (states_of state old.bay) (states_of state bay) → Keeps state old new
+    ends_looking at told place bay same done tells first f =
+        leads_so first (cut_looking first old.core old.programs (states_of state old.bay) (states_of state new.bay) old.history.events new.history.events (cause_of t) at (told_ends t told) is f (alike_left first place bay same done (ap is_over at) f))
 
-    pub ends_saving : (w : Work) (n : ℕ) → old.core.stage ≡ stage.Saving w n → is_device_fault t ≡ true → Keeps state old new
-    ends_saving w n at fault tells first f =
+    -- what is left of a run that saves a dataset, whichever that is
+    abbrev pub SavingLeft : Work → ℕ → Rack D → Type 0
+    SavingLeft w n bay = (first : Machine) (m : Manifest) → IsSaving first old.core old.programs (states_of state old.bay) old.history.events w n m → IsLeft old.core (states_of state bay) (running (contents_of (cells_of (states_of state old.bay)) old.core) old.core)
+
+    pub ends_saving : (w : Work) (n : ℕ) → old.core.stage ≡ stage.Saving w n → is_device_fault t ≡ true → (bay : Rack D) → new.bay ≡ bay → SavingLeft w n bay → Keeps state old new
+    ends_saving w n at fault bay same left tells first f =
         let h = saves_now first old.core old.programs (states_of state old.bay) old.history.events w n at f in
-        leads_so first (cut_saving first old.core old.programs (states_of state old.bay) (states_of state new.bay) old.history.events new.history.events t w n h.0 h.1 fault is)
+        leads_so first (cut_saving first old.core old.programs (states_of state old.bay) (states_of state new.bay) old.history.events new.history.events t w n h.0 h.1 fault is
+        (subst (λ (b : Rack D). IsLeft old.core (states_of state b) (running (contents_of (cells_of (states_of state old.bay)) old.core) old.core)) (sym same) (left first h.0 h.1)))
 
   -- the number's way may have changed with it
-  pub ends_storing : (w : Way) → new.core ≡ (let x : Core = record old.core { stage = stage.Cut; storing = w } in x) → new.programs ≡ old.programs → old.core.stage ≡ stage.Storing → is_told t ≡ true → Keeps state old new
-  ends_storing w core programs at told tells first f =
-      let l = cut_early first old.core old.programs (states_of state old.bay) (states_of state new.bay) old.history.events new.history.events (cause_of t) (inr at) (told_ends t told) is f in
-      let m : Leads first (let x : Core = record old.core { stage = stage.Cut; storing = w } in x) old.programs (states_of state new.bay) new.history.events = record { state = l.state; run = l.run; holds = tt; told = l.told } in
+  pub ends_storing : (w : Way) → new.core ≡ (let x : Core = record old.core { stage = stage.Cut; storing = w } in x) → new.programs ≡ old.programs → old.core.stage ≡ stage.Storing → is_told t ≡ true
+      → (bay : Rack D) → new.bay ≡ bay → ((p : ℕ) → p ≢ 32 → states_of state bay p ≡ states_of state old.bay p) → Keeps state old new
+  ends_storing w core programs at told bay same apart tells first f =
+      let l = cut_early first old.core old.programs (states_of state old.bay) (states_of state new.bay) old.history.events new.history.events (cause_of t) (inr at) (told_ends t told) is f (prefix_left first bay same apart (ap is_over at) f) in
+      let m : Leads first (let x : Core = record old.core { stage = stage.Cut; storing = w } in x) old.programs (states_of state new.bay) new.history.events = record { state = l.state; run = l.run; holds = tt; told = l.told; left = l.left } in
       subst (λ (x : Core). Leads first x new.programs (states_of state new.bay) new.history.events) (sym core)
       (subst (λ (ps : List (List Step)). Leads first (let x : Core = record old.core { stage = stage.Cut; storing = w } in x) ps (states_of state new.bay) new.history.events) (sym programs) m)
+
+-- ## What is left of a run that saves a dataset
+
+module _ {D : Type 0} (state : D → DeviceState) (old : Site D) (n place : ℕ) (bay : Rack D) where
+  -- a sync was refused
+  pub synced_left : (w : Work) → OnlyAt place KeptAlike (states_of state old.bay) (states_of state bay) → (first : Machine) (m : Manifest) → IsSaving first old.core old.programs (states_of state old.bay) old.history.events w n m
+      → IsLeft old.core (states_of state bay) (running (contents_of (cells_of (states_of state old.bay)) old.core) old.core)
+  synced_left w done first m h = left_alike old.core place (states_of state old.bay) (states_of state bay) (running (contents_of (cells_of (states_of state old.bay)) old.core) old.core) done
+      (loose_left w n old.core m (states_of state old.bay) (loose_of first old.core old.programs (states_of state old.bay) old.history.events w n m h))
+
+  -- a gate `whole` was
+  pub whole_left : (which : DataId) → slice_get old.core.places n ≡ Some place → Some which ≡ saved_in old.core.opened old.core.kept → OnlyAt place (Unturned (record_name which n) 0) (states_of state old.bay) (states_of state bay)
+      → (first : Machine) (m : Manifest) → IsSaving first old.core old.programs (states_of state old.bay) old.history.events work.Whole n m → IsLeft old.core (states_of state bay) (running (contents_of (cells_of (states_of state old.bay)) old.core) old.core)
+  whole_left which home is done first m h =
+      let same = saved_is first old.core old.programs (states_of state old.bay) old.history.events work.Whole n m which h is in
+      whole_refused first old.core old.programs (states_of state old.bay) (states_of state bay) old.history.events n m h place home (subst (λ (w : DataId). OnlyAt place (Unturned (record_name w n) 0) (states_of state old.bay) (states_of state bay)) same done)
+
+  -- a gate `sealed` was
+  pub sealed_left : (which : DataId) → slice_get old.core.places n ≡ Some place → Some which ≡ saved_in old.core.opened old.core.kept → OnlyAt place (Unturned (record_name which n) 1) (states_of state old.bay) (states_of state bay)
+      → (first : Machine) (m : Manifest) → IsSaving first old.core old.programs (states_of state old.bay) old.history.events work.Sealed n m → IsLeft old.core (states_of state bay) (running (contents_of (cells_of (states_of state old.bay)) old.core) old.core)
+  sealed_left which home is done first m h =
+      let same = saved_is first old.core old.programs (states_of state old.bay) old.history.events work.Sealed n m which h is in
+      sealed_refused first old.core old.programs (states_of state old.bay) (states_of state bay) old.history.events n m h place home (subst (λ (w : DataId). OnlyAt place (Unturned (record_name w n) 1) (states_of state old.bay) (states_of state bay)) same done)

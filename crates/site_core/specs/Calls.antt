@@ -4,7 +4,7 @@ use Rattle.scr_base.specs.Stages.{left}
 use Rattle.scr_base.specs.declared.change.Change.{Change}
 use Rattle.scr_base.specs.declared.shape.DataId.{DataId}
 use Rattle.member_store.specs.Calls.{RemovesAtMost, HasNoFile, IsDropStage}
-use Rattle.node_device.specs.File.{written, bytes_of, IsAtRest}
+use Rattle.node_device.specs.File.{written, bytes_of, IsAtRest, IsPartlySynced, Torn}
 use Rattle.node_device.specs.DeviceState.{DeviceState, ChangesOnly, ReadsAlike}
 use Rattle.gated_record.specs.Record.{HasBody, HasShutGates, open_gate_byte}
 
@@ -29,6 +29,7 @@ TellsAll {D} state = (d : D) → (state d).tells ≡ true
 pub record Synced (old new : DeviceState) : Type 0 where
   pub alike : ReadsAlike old new
   pub at_rest : (q : List ℕ) → IsAtRest (new.file q)
+  pub partly : (q : List ℕ) → IsPartlySynced (old.file q) (new.file q)
 
 -- a record's body was written; where its gates were shut, they are
 pub record Recorded (name body : List ℕ) (old new : DeviceState) : Type 0 where
@@ -36,9 +37,10 @@ pub record Recorded (name body : List ℕ) (old new : DeviceState) : Type 0 wher
   pub shut : HasShutGates (old.file name) → HasShutGates (new.file name)
   pub only : ChangesOnly name old new
 
--- a gate was opened, of a record that has its place
+-- a gate was opened, of a record that has its place; a stop leaves the rest of it as before
 pub record Turned (name : List ℕ) (gate : ℕ) (old new : DeviceState) : Type 0 where
   pub now : old.tells ≡ true → gate < length (bytes_of (old.file name).now) → (new.file name).now ≡ Some (set (bytes_of (old.file name).now) gate open_gate_byte)
+  pub torn : Torn gate 1 (old.file name) (new.file name)
   pub only : ChangesOnly name old new
 
 -- a call on one file was refused: what reads give is the same, and no other file is less at rest
@@ -46,10 +48,23 @@ pub record Refused (name : List ℕ) (old new : DeviceState) : Type 0 where
   pub alike : ReadsAlike old new
   pub others : (q : List ℕ) → q ≢ name → IsAtRest (old.file q) → IsAtRest (new.file q)
 
--- what reads give is the same, and no file is less at rest
+-- the write of a record's body was refused; where its gates were shut, they are
+pub record Unrecorded (name : List ℕ) (old new : DeviceState) : Type 0 where
+  pub refused : Refused name old new
+  pub shut : HasShutGates (old.file name) → HasShutGates (new.file name)
+  pub only : ChangesOnly name old new
+
+-- the opening of a gate was refused; a stop leaves the rest of the record as before
+pub record Unturned (name : List ℕ) (gate : ℕ) (old new : DeviceState) : Type 0 where
+  pub refused : Refused name old new
+  pub torn : Torn gate 1 (old.file name) (new.file name)
+  pub only : ChangesOnly name old new
+
+-- what reads give is the same, no file is less at rest, and a stop leaves no more
 pub record KeptAlike (old new : DeviceState) : Type 0 where
   pub alike : ReadsAlike old new
   pub at_rest : (q : List ℕ) → IsAtRest (old.file q) → IsAtRest (new.file q)
+  pub partly : (q : List ℕ) → IsPartlySynced (old.file q) (new.file q)
 
 -- one file of a member was removed, at most; where the removal knows the files that are left, they are fewer, and none at its end
 pub record FileDropped (which : DataId) (node : ℕ) (over : Bool) (before after : Option (List Change)) (old new : DeviceState) : Type 0 where

@@ -40,7 +40,7 @@ use Rattle.site_core.specs.Shown.{Contents, running, setup_of, served, decided}
 use Rattle.site_core.specs.Choosing.{verdict_of}
 use Rattle.site_core.specs.Calls.{TellsAll}
 use Rattle.site_core.specs.Stored.{cells_of, contents_of}
-use Rattle.site_core.specs.Holds.{StandsFor, HasRest, Leads, IsSaving, IsCutRun}
+use Rattle.site_core.specs.Holds.{StandsFor, HasRest, HasLeft, Leads, IsSaving, IsCutRun}
 
 -- this holds of each event
 abbrev pub Each : (Event → Type 0) → List Event → Type 0
@@ -66,10 +66,11 @@ pub record Ends (s : Setup) (states : ℕ → DeviceState) (first : Machine) (pl
   pub rest : HasRest s states state
   pub item : IsRunOf places programs AtEnd events
 
--- the events of a run that a device ended, or somebody from outside
-pub record WasCut (s : Setup) (first : Machine) (places : List ℕ) (programs : List (List Step)) (events : List Event) : Type 0 where
+-- the events of a run that a device ended, or somebody from outside; and what a stop leaves of its datasets in cache
+pub record WasCut (s : Setup) (states : ℕ → DeviceState) (first : Machine) (places : List ℕ) (programs : List (List Step)) (events : List Event) : Type 0 where
   pub state : Machine
   pub run : RunsTo s first events state
+  pub left : HasLeft s first places states events
   pub item : IsCutRun places programs events
 
 -- the run is over

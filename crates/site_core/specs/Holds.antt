@@ -18,6 +18,7 @@ use Rattle.ckpt_model.specs.Dataset.{Dataset}
 use Rattle.ckpt_model.specs.declared.event.Event.TheVariants as event
 use Rattle.ckpt_model.specs.declared.event.StopCause.{StopCause}
 use Rattle.ckpt_model.specs.declared.event.StopCause.TheVariants as stops
+use Rattle.site_core.specs.Left.{LeavesSaved, NoneSealed, LeavesKept, is_sealing_work}
 use Rattle.site_core.specs.Numbers.{IsNumberFile}
 use Rattle.site_core.specs.declared.core_state.Drop.{Drop}
 use Rattle.site_core.specs.declared.core_state.Drop.TheVariants as drop
@@ -27,6 +28,7 @@ use Rattle.ckpt_model.specs.Machine.{Machine, Setup, Stage as Place}
 use Rattle.ckpt_model.specs.Legal.{IsRunOf, AreOfPrograms, begins_run, is_stop}
 use Rattle.ckpt_model.specs.Legal.Place.{AtEnd}
 use Rattle.ckpt_model.specs.Runs.{RunsTo}
+use Rattle.ckpt_model.specs.Stops.{may_stop}
 use Rattle.ckpt_model.specs.declared.event.Event.{Event}
 use Rattle.round_core.specs.Seats.{fresh_seat, is_complete, first_call, seat_is_valid}
 use Rattle.site_core.specs.declared.cache.Cached.{Cached}
@@ -174,11 +176,13 @@ RecordAt false o m node whole sealed = o ≡ None
 pub record SavesAt (w : Work) (n : ℕ) (c : Core) (m : Manifest) (states : ℕ → DeviceState) : Type 0 where
   pub round : IsSaveRound c
   pub below : n < c.shape.nodes
+  pub open_yet : is_sealing_work w ≡ false → c.opened ≡ Some m
   pub apart : (i : ℕ) (x : Cached) → slice_get c.kept i ≡ Some x → is_being_sealed x.mark ≡ false → x.manifest.desc.which ≢ m.desc.which
   pub one : (i : ℕ) (x : Cached) → slice_get c.kept i ≡ Some x → is_being_sealed x.mark ≡ true → x.manifest ≡ m
   pub records : (node p : ℕ) → slice_get c.places node ≡ Some p → RecordAt (is_written_at w n node) (((states p).file (record_name m.desc.which node)).now) m node (is_whole_at w n node) (is_sealed_at w n node)
   pub clean : (node p : ℕ) → slice_get c.places node ≡ Some p → is_written_at w n node ≡ false → IsAtRest ((states p).file (record_name m.desc.which node))
   pub quiet : (node p : ℕ) (q : List ℕ) → slice_get c.places node ≡ Some p → is_pending_at w n node ≡ false → IsAtRest ((states p).file q)
+  pub leaves : LeavesSaved w n c.places m states
 
 -- the dataset that is being saved: before its sealing it is the open one, and then the last in cache
 abbrev pub IsSaved : Work → ℕ → Core → Manifest → Type 0
@@ -190,7 +194,7 @@ IsFileOf c m q = (rank : ℕ) × (j : ℕ) × (rank < 2 ^ 8) × (j < 2 ^ 8) × (
 
 -- on a node, the file belongs to what isn't stable yet: a file of the open dataset, or of the one that is being saved, or its record
 abbrev pub IsPending : Stage → Core → List ℕ → Type 0
-IsPending (stage.Saving w n) c q = (m : Manifest) × IsSaved w n c m × (IsFileOf c m q ⊎ ((node : ℕ) × (q ≡ record_name m.desc.which node)))
+IsPending (stage.Saving w n) c q = (m : Manifest) × IsSaved w n c m × (IsFileOf c m q ⊎ ((node : ℕ) × (node < 2 ^ 8) × (q ≡ record_name m.desc.which node)))
 IsPending _ c q = (m : Manifest) × (c.opened ≡ Some m) × IsFileOf c m q
 
 -- what the encoder and the recoverer count on
@@ -242,10 +246,10 @@ pub record IsDropFor (c : Core) : Type 0 where
 
 -- a file of one of the dataset's members
 abbrev pub IsOfDataset : DataId → List ℕ → Type 0
-IsOfDataset which q = (node : ℕ) × IsNameOf which node q
+IsOfDataset which q = (node : ℕ) × (node < 2 ^ 8) × IsNameOf which node q
 
--- The open dataset is on its way out: on some nodes its record is gone, and on some of these that is stable. Of the machine's
--- open dataset nothing is said.
+-- The open dataset is on its way out: on some nodes its record is gone, and on some of these that is stable; a stop leaves no record
+-- of it sealed. Of the machine's open dataset nothing is said.
 pub record IsLeavingAt (gone settled : ℕ → Bool) (c : Core) (states : ℕ → DeviceState) (m : Machine) : Type 0 where
   pub set : Manifest
   pub opened : c.opened ≡ Some set
@@ -261,6 +265,7 @@ pub record IsLeavingAt (gone settled : ℕ → Bool) (c : Core) (states : ℕ �
   pub future : NoFutureFiles (cells_of states) c.run c.next
   pub mended : list_any mends c.kept ≡ false
   pub sealed : list_any seals c.kept ≡ false
+  pub unsealed : NoneSealed set.desc.which states
   pub removed : (node p : ℕ) → slice_get c.places node ≡ Some p → gone node ≡ true → cells_of states p (record_name set.desc.which node) ≡ None
   pub quiet : (p : ℕ) (q : List ℕ) → p ≤ 32 → (p < c.shape.nodes → settled p ≡ false → IsOfDataset set.desc.which q → ⊥) → IsAtRest ((states p).file q)
 
@@ -340,12 +345,28 @@ ToldAt stage.Stopped places programs events = IsRunOf places programs AtEnd even
 ToldAt stage.Cut places programs events = IsCutRun places programs events
 ToldAt _ places programs events = IsSoFar places programs events
 
+-- Before its end the run had come to a state whose datasets in cache are left whole, whatever a stop leaves.
+pub record HasLeft (s : Setup) (first : Machine) (places : List ℕ) (states : ℕ → DeviceState) (events : List Event) : Type 0 where
+  pub front : List Event
+  pub cause : StopCause
+  pub is : events ≡ front ++ event.Stop cause ∷ []
+  pub before : Machine
+  pub run : RunsTo s first front before
+  pub may : IsTrue (may_stop before cause)
+  pub leaves : LeavesKept s places states before
+
+-- what is left of a run that was cut
+abbrev pub LeftAt : Stage → Setup → Machine → List ℕ → (ℕ → DeviceState) → List Event → Type 0
+LeftAt stage.Cut s first places states events = HasLeft s first places states events
+LeftAt _ s first places states events = Unit {0}
+
 -- the history leads from a state to one for which the run's memory and files stand
 pub record Leads (first : Machine) (c : Core) (programs : List (List Step)) (states : ℕ → DeviceState) (events : List Event) : Type 0 where
   pub state : Machine
   pub run : RunsTo (setup_of c) first events state
   pub holds : HoldsAt c.stage c states state
   pub told : ToldAt c.stage c.places programs events
+  pub left : LeftAt c.stage (setup_of c) first c.places states events
 
 -- what is known of a run while a dataset is being saved
 pub record IsSaving (first : Machine) (c : Core) (programs : List (List Step)) (states : ℕ → DeviceState) (events : List Event) (w : Work) (n : ℕ) (m : Manifest) : Type 0 where

@@ -7,6 +7,7 @@ pub mod Looks
 pub mod Removals
 pub mod Cores
 pub mod Stored
+pub mod Left
 pub mod Holds
 pub mod Calls
 pub mod Causes

@@ -1,12 +1,12 @@
 // What the moves do to a bay's devices, with the refusals as the site's.
-ghost use Rattle.std.specs.Prelude.{◌≡◌, ◌≤◌, ◌<◌, ◌+◌, ◌*◌, ℕ, List, IfOk, OnOk, OnErr, true, length, codes, take, drop};
+ghost use Rattle.std.specs.Prelude.{◌≡◌, ◌≢◌, ◌≤◌, ◌<◌, ◌+◌, ◌*◌, ℕ, List, IfOk, OnOk, OnErr, true, length, codes, take, drop};
 ghost use Rattle.node_device.specs.File.{bytes_of};
 ghost use Rattle.node_device.specs.Rack.{states_of, OnlyAt};
 ghost use Rattle.gated_record.specs.PairSteps.{StepsPair};
 ghost use Rattle.member_store.specs.Calls.{gate_number};
 ghost use Rattle.member_store.specs.Names.{record_name, part_name};
 ghost use Rattle.member_store.specs.Members.{AreMembers, member_body};
-ghost use Rattle.site_core.specs.Calls.{Same, Written, Synced, Recorded, Turned, Refused, KeptAlike, FileDropped};
+ghost use Rattle.site_core.specs.Calls.{Same, Written, Synced, Recorded, Turned, Refused, Unrecorded, Unturned, KeptAlike, FileDropped};
 ghost use Rattle.site_core.specs.Causes.{CallCause};
 ghost use Rattle.site_core.specs.Writes.{IsWrite, IsNoWrite, PassesOn, WayWrites, MayWayWrite};
 ghost use Rattle.halt_file.specs.Conditions.{conditions};
@@ -30,6 +30,7 @@ use std::alloc::Global;
 /// The number of the last run, 0 for none.
 pub(crate) fn last_run<D: Device>(alloc: Global, bay: &mut Bay<D>) -> Result<u32, Trouble>
     ensures run { IfOk result (λ run. (states_of D.state bay.old 32).tells ≡ true → run ≡ stored_run (cells_of (states_of D.state bay.old))) }
+    ensures refused { OnErr result ((p : ℕ) → p ≢ 32 → states_of D.state bay.new p ≡ states_of D.state bay.old p) }
     ensures same { OnOk result (OnlyAt 32 Same (states_of D.state bay.old) (states_of D.state bay.new)) }
     ensures cause { CallCause IsNoWrite (states_of D.state bay.old) (states_of D.state bay.new) result }
 {
@@ -43,6 +44,7 @@ pub(crate) fn last_run<D: Device>(alloc: Global, bay: &mut Bay<D>) -> Result<u32
 /// The conditions on which jobs are to stop.
 pub(crate) fn halt_now<D: Device>(alloc: Global, bay: &mut Bay<D>) -> Result<Halt, Trouble>
     ensures halt { IfOk result (λ halt. (states_of D.state bay.old 32).tells ≡ true → conditions halt ≡ stored_halt (cells_of (states_of D.state bay.old))) }
+    ensures refused { OnErr result ((p : ℕ) → p ≢ 32 → states_of D.state bay.new p ≡ states_of D.state bay.old p) }
     ensures same { OnOk result (OnlyAt 32 Same (states_of D.state bay.old) (states_of D.state bay.new)) }
     ensures cause { CallCause IsNoWrite (states_of D.state bay.old) (states_of D.state bay.new) result }
 {
@@ -59,6 +61,7 @@ pub(crate) fn store_number<D: Device>(
     storing: &mut Storing,
 ) -> Result<bool, Trouble>
     ensures want { storing.new.want ≡ storing.old.want }
+    ensures refused { OnErr result ((p : ℕ) → p ≢ 32 → states_of D.state bay.new p ≡ states_of D.state bay.old p) }
     ensures steps { IfOk result (λ over. OnlyAt 32 (λ a b. StepsPair (codes "run") storing.old.want (Rattle.std.specs.Prelude.Ok over) storing.old.changes storing.new.changes a b) (states_of D.state bay.old) (states_of D.state bay.new)) }
     ensures cause { CallCause (MayWayWrite storing.old) (states_of D.state bay.old) (states_of D.state bay.new) result }
     ensures fits { OnOk result ((p at count : ℕ) → (name : List ℕ) → WayWrites storing.old p name at count → PassesOn (states_of D.state bay.old) p name at count → ⊥) }
@@ -85,6 +88,7 @@ pub(crate) fn members_at<D: Device>(
     requires { place < 32 }
     ensures members { IfOk result (λ members. (states_of D.state bay.old place).tells ≡ true → AreMembers shape (states_of D.state bay.old place) members.items) }
     ensures same { OnOk result (OnlyAt place Same (states_of D.state bay.old) (states_of D.state bay.new)) }
+    ensures refused { OnErr result (OnlyAt place KeptAlike (states_of D.state bay.old) (states_of D.state bay.new)) }
     ensures cause { CallCause IsNoWrite (states_of D.state bay.old) (states_of D.state bay.new) result }
 {
     match scan_at(alloc, bay, place, shape) {
@@ -149,7 +153,7 @@ pub(crate) fn put_member<D: Device>(
     requires place { place < 32 }
     requires node { node < desc.now.nodes }
     requires ranks { length files.now ≡ desc.now.nodes * desc.now.ranks }
-    ensures refused { OnErr result (OnlyAt place (Refused (record_name desc.now.which node)) (states_of D.state bay.old) (states_of D.state bay.new)) }
+    ensures refused { OnErr result (OnlyAt place (Unrecorded (record_name desc.now.which node)) (states_of D.state bay.old) (states_of D.state bay.new)) }
     ensures recorded { OnOk result (OnlyAt place (Recorded (record_name desc.now.which node) (member_body desc.now node files.now)) (states_of D.state bay.old) (states_of D.state bay.new)) }
     ensures cause { CallCause (IsWrite place (record_name desc.now.which node) 8 (8 + length (member_body desc.now node files.now))) (states_of D.state bay.old) (states_of D.state bay.new) result }
     ensures fits { OnOk result (PassesOn (states_of D.state bay.old) place (record_name desc.now.which node) 8 (8 + length (member_body desc.now node files.now)) → ⊥) }
@@ -170,6 +174,7 @@ pub(crate) fn put_gate<D: Device>(
 ) -> Result<(), Trouble>
     requires { place < 32 }
     ensures turned { OnOk result (OnlyAt place (Turned (record_name which node) (gate_number gate)) (states_of D.state bay.old) (states_of D.state bay.new)) }
+    ensures refused { OnErr result (OnlyAt place (Unturned (record_name which node) (gate_number gate)) (states_of D.state bay.old) (states_of D.state bay.new)) }
     ensures cause { CallCause (IsWrite place (record_name which node) (gate_number gate) 1) (states_of D.state bay.old) (states_of D.state bay.new) result }
     ensures fits { OnOk result (PassesOn (states_of D.state bay.old) place (record_name which node) (gate_number gate) 1 → ⊥) }
 {
@@ -204,6 +209,7 @@ pub(crate) fn drop_file<D: Device>(
     ensures node { removal.new.node ≡ removal.old.node }
     ensures dropped { IfOk result (λ over. OnlyAt place (FileDropped removal.old.which removal.old.node over removal.old.changes removal.new.changes) (states_of D.state bay.old) (states_of D.state bay.new)) }
     ensures stays { OnErr result (removal.new ≡ removal.old) }
+    ensures refused { OnErr result (OnlyAt place KeptAlike (states_of D.state bay.old) (states_of D.state bay.new)) }
     ensures cause { CallCause IsNoWrite (states_of D.state bay.old) (states_of D.state bay.new) result }
 {
     match drop_file_at(alloc, bay, place, removal) {

@@ -255,7 +255,7 @@ impl<D: Device> Site<D> {
     pub fn close(self) -> Closed<D>
         ensures history { result.history ≡ self.history }
         ensures bay { result.bay ≡ self.bay }
-        ensures cut { (first : Machine) → Follows D.state first self → self.core.stage ≡ Stage.Cut → WasCut (setup_of self.core) first self.core.places self.programs result.history.events }
+        ensures cut { (first : Machine) → Follows D.state first self → self.core.stage ≡ Stage.Cut → WasCut (setup_of self.core) (states_of D.state result.bay) first self.core.places self.programs result.history.events }
         ensures ends { (first : Machine) → Follows D.state first self → self.core.stage ≡ Stage.Stopped → Ends (setup_of self.core) (states_of D.state result.bay) first self.core.places self.programs result.history.events }
     {
         let Site {

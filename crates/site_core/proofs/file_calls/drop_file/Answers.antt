@@ -4,7 +4,7 @@ use Rattle.site_core.specs.Causes.{CallCause}
 use Rattle.site_core.specs.Writes.{IsNoWrite}
 use Rattle.site_core.specs.declared.error.Trouble.{Trouble}
 use Rattle.site_core.proofs.CallCauses.{refused}
-use Rattle.site_core.proofs.RefusedCalls.{file_dropped, drop_refused, leaving-same}
+use Rattle.site_core.proofs.RefusedCalls.{file_dropped, drop_refused, read_refused, leaving-same}
 use Rattle.site_core.proofs.file_calls.drop_file.Goals as goal
 
 pub returns-in-Ok-clause-dropped : goal.returns-in-Ok-clause-dropped
@@ -27,3 +27,12 @@ returns-in-Err-clause-cause g c =
     let r = c.args.removal.now in
     let why = drop_refused c.args.place r.which r.node r.changes c.drop_file_at.new.removal.changes (old c.args.place) (new c.args.place) c.in-Err.error c.in-Err.ensures.drops.here in
     subst (λ (e : Trouble). CallCause {T = Bool} IsNoWrite old new (Err e)) (sym c.trouble_at.ensures) (refused c.args.place old new c.in-Err.ensures.drops.others Bool Bool _ c.in-Err.error c.in-Err.ensures.drops.here.cause why)
+
+pub returns-in-Err-clause-refused : goal.returns-in-Err-clause-refused
+returns-in-Err-clause-refused g c =
+    let old = states_of g.D.Device.state c.args.bay.now in
+    let new = states_of g.D.Device.state c.drop_file_at.new.bay in
+    record {
+      here = read_refused (old c.args.place) (new c.args.place) c.in-Err.ensures.drops.here.refused.1;
+      others = c.in-Err.ensures.drops.others;
+    }

@@ -2,11 +2,12 @@ use Rattle.std.proofs.Common.{true, Err, sym, subst}
 use Rattle.node_device.specs.Rack.{states_of}
 use Rattle.node_device.proofs.Racks.{states_of-sound}
 use Rattle.member_store.specs.Names.{record_name}
-use Rattle.member_store.specs.Calls.{gate_number}
+use Rattle.member_store.specs.Calls.{gate_number, gate_byte}
 use Rattle.site_core.specs.Causes.{CallCause}
 use Rattle.site_core.specs.Writes.{IsWrite}
 use Rattle.site_core.specs.declared.error.Trouble.{Trouble}
 use Rattle.site_core.proofs.CallCauses.{refused, gate_refused, turned}
+use Rattle.site_core.proofs.RefusedCalls.{gate_unturned}
 use Rattle.site_core.proofs.file_calls.put_gate.Goals as goal
 
 pub returns-in-Ok-clause-turned : goal.returns-in-Ok-clause-turned
@@ -24,3 +25,12 @@ returns-in-Err-clause-cause g c =
     let new = states_of g.D.Device.state c.open_gate_at.new.bay in
     let why = gate_refused c.args.place c.args.which c.args.node c.args.gate true (old c.args.place) (new c.args.place) c.in-Err.error c.in-Err.ensures.here in
     subst (λ (e : Trouble). CallCause {T = Unit {0}} (IsWrite c.args.place (record_name c.args.which c.args.node) (gate_number c.args.gate) 1) old new (Err e)) (sym c.trouble_at.ensures) (refused c.args.place old new c.in-Err.ensures.others (Unit {0}) (Unit {0}) _ c.in-Err.error c.in-Err.ensures.here.cause why)
+
+pub returns-in-Err-clause-refused : goal.returns-in-Err-clause-refused
+returns-in-Err-clause-refused g c =
+    let old = states_of g.D.Device.state c.args.bay.now in
+    let new = states_of g.D.Device.state c.open_gate_at.new.bay in
+    record {
+      here = gate_unturned {T = Unit {0}} (record_name c.args.which c.args.node) (gate_number c.args.gate) (gate_byte true) c.in-Err.error (old c.args.place) (new c.args.place) c.in-Err.ensures.here;
+      others = c.in-Err.ensures.others;
+    }

@@ -6,7 +6,7 @@ use Rattle.site_core.specs.declared.error.Trouble.{Trouble}
 use Rattle.site_core.proofs.CallCauses.{refused, record_refused, recorded, calm_at}
 use Rattle.member_store.specs.Names.{record_name}
 use Rattle.member_store.specs.Members.{member_body}
-use Rattle.site_core.proofs.RefusedCalls.{write_refused}
+use Rattle.site_core.proofs.RefusedCalls.{record_unwritten}
 use Rattle.site_core.proofs.file_calls.put_member.Goals as goal
 
 pub returns-in-Ok-clause-recorded : goal.returns-in-Ok-clause-recorded
@@ -33,6 +33,6 @@ returns-in-Err-clause-refused g c =
     let old = states_of g.D.Device.state c.args.bay.now in
     let new = states_of g.D.Device.state c.write_member_at.new.bay in
     record {
-      here = write_refused (record_name c.args.desc.now.which c.args.node) (old c.args.place) (new c.args.place) c.in-Err.ensures.here.refused c.in-Err.ensures.here.only;
+      here = record_unwritten {T = Unit {0}} (record_name c.args.desc.now.which c.args.node) (member_body c.args.desc.now c.args.node c.args.files.now) c.in-Err.error (old c.args.place) (new c.args.place) c.in-Err.ensures.here;
       others = c.in-Err.ensures.others;
     }

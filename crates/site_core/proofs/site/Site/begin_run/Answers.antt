@@ -40,7 +40,7 @@ pub returns-in-Ok-clause-still : goal.returns-in-Ok-clause-still
 returns-in-Ok-clause-still g c = moved_stays c.args.self.now c.take_number.new.self c.take_number.result c.take_number.ensures.moved
 
 pub returns-in-Err-clause-run : goal.returns-in-Err-clause-run
-returns-in-Err-clause-run g c = on_ok3 c.stop_by.result (λ e k t. ends_early g.D.Device.state c.args.self.now c.stop_by.new.self c.in-Err.trouble (behind _ e c.reserve.ensures.events) k c.stop_by.ensures.fixed.programs (inl c.requires) t)
+returns-in-Err-clause-run g c = on_ok3 c.stop_by.result (λ e k t. ends_early g.D.Device.state c.args.self.now c.stop_by.new.self c.in-Err.trouble (behind _ e c.reserve.ensures.events) k c.stop_by.ensures.fixed.programs (inl c.requires) t c.last_run.new.bay c.stop_by.ensures.bay c.in-Err.ensures.refused)
     c.stop_by.ensures.events c.stop_by.ensures.core c.stop_by.ensures.told
 
 pub returns-in-Err-clause-told : goal.returns-in-Err-clause-told

@@ -31,7 +31,7 @@ returns-in_ok-push-in-Ok-clause-run g c = λ tells first f.
     arrived first s.core s.programs (states_of state s.bay) (states_of state c.store_number.new.bay) s.history.events c.push.new.self.events c.in-Ok.over c.store_number.new.storing c.requires c.if-not-over.false (tells_all state tells s.bay) c.in-Ok.ensures.steps told f
 
 pub returns-in-Err-clause-run : goal.returns-in-Err-clause-run
-returns-in-Err-clause-run g c = on_ok3 c.stop_by.result (λ e k t. ends_storing g.D.Device.state c.args.self.now c.stop_by.new.self c.in-Err.trouble (appended c.stop_by.new.self.history.events c.reserve.new.self.events c.args.self.now.history.events (event.Stop (cause_of c.in-Err.trouble)) (event.Stop (cause_of c.in-Err.trouble)) e c.reserve.ensures.events refl) c.store_number.new.storing k c.stop_by.ensures.fixed.programs c.requires t)
+returns-in-Err-clause-run g c = on_ok3 c.stop_by.result (λ e k t. ends_storing g.D.Device.state c.args.self.now c.stop_by.new.self c.in-Err.trouble (appended c.stop_by.new.self.history.events c.reserve.new.self.events c.args.self.now.history.events (event.Stop (cause_of c.in-Err.trouble)) (event.Stop (cause_of c.in-Err.trouble)) e c.reserve.ensures.events refl) c.store_number.new.storing k c.stop_by.ensures.fixed.programs c.requires t c.store_number.new.bay c.stop_by.ensures.bay c.in-Err.ensures.refused)
     c.stop_by.ensures.events c.stop_by.ensures.core c.stop_by.ensures.told
 
 pub returns-in-Err-clause-told : goal.returns-in-Err-clause-told

@@ -29,7 +29,7 @@ returns-in-Ok-clause-run g c = λ tells first f.
     (removal_synced first s.core s.programs old new s.history.events n c.in-Some.place c.requires.stage (sym c.in-Some.ensures.place) f c.in-Ok.ensures.synced))
 
 pub returns-in-Err-clause-run : goal.returns-in-Err-clause-run
-returns-in-Err-clause-run g c = on_ok3 c.stop_by_fault.result (λ e k t. ends_dropping g.D.Device.state c.args.self.now c.stop_by_fault.new.self c.in-Err.trouble (behind _ e c.reserve.ensures.events) k c.stop_by_fault.ensures.fixed.programs drop.Sync c.args.node c.requires.stage t)
+returns-in-Err-clause-run g c = on_ok3 c.stop_by_fault.result (λ e k t. ends_dropping g.D.Device.state c.args.self.now c.stop_by_fault.new.self c.in-Err.trouble (behind _ e c.reserve.ensures.events) k c.stop_by_fault.ensures.fixed.programs drop.Sync c.args.node c.requires.stage t c.in-Some.place c.sync_node.new.bay c.stop_by_fault.ensures.bay c.in-Err.ensures.refused)
     c.stop_by_fault.ensures.events c.stop_by_fault.ensures.core c.stop_by_fault.ensures.fault
 
 pub returns-in-Ok-clause-lowers : goal.returns-in-Ok-clause-lowers

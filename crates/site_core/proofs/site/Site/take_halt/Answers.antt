@@ -28,7 +28,7 @@ returns-in-Ok-clause-run g c = λ tells first f.
     (numbered first s.core s.programs states s.history.events n c.in-Ok.halt c.requires.stage fits (c.requires.last tells) (c.in-Ok.ensures.halt (tells_of state tells s.bay 32)) f))
 
 pub returns-in-Err-clause-run : goal.returns-in-Err-clause-run
-returns-in-Err-clause-run g c = on_ok3 c.stop_by.result (λ e k t. ends_early g.D.Device.state c.args.self.now c.stop_by.new.self c.in-Err.trouble e k c.stop_by.ensures.fixed.programs (inl c.requires.stage) t)
+returns-in-Err-clause-run g c = on_ok3 c.stop_by.result (λ e k t. ends_early g.D.Device.state c.args.self.now c.stop_by.new.self c.in-Err.trouble e k c.stop_by.ensures.fixed.programs (inl c.requires.stage) t c.halt_now.new.bay c.stop_by.ensures.bay c.in-Err.ensures.refused)
     c.stop_by.ensures.events c.stop_by.ensures.core c.stop_by.ensures.told
 
 pub returns-in-Err-clause-told : goal.returns-in-Err-clause-told

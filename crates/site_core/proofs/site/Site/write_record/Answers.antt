@@ -11,7 +11,8 @@ use Rattle.site_core.proofs.Sounds.{sound_of}
 use Rattle.ckpt_model.specs.Track.{Track}
 use Rattle.ckpt_model.specs.declared.event.Event.{Event}
 use Rattle.site_core.specs.Cores.{dropping_core}
-use Rattle.site_core.proofs.Telling.{on_ok}
+use Rattle.site_core.proofs.Telling.{on_ok, on_err}
+use Rattle.site_core.proofs.Accounts.{memory_calm, tells_nothing}
 use Rattle.site_core.proofs.LocalSteps.{lead_on}
 use Rattle.site_core.proofs.Refusals.{told_faults, refused_for}
 use Rattle.site_core.proofs.Removing.{carried_write}
@@ -23,7 +24,7 @@ use Rattle.scr_base.specs.declared.actor.Actor.TheVariants as actor
 use Rattle.scr_base.specs.declared.answers.Reply.TheVariants as reply
 use Rattle.node_device.specs.Rack.{Rack}
 use Rattle.site_core.specs.Writes.{IsWrite, MayWrite}
-use Rattle.site_core.specs.Follows.{carried, IsRefusedFor}
+use Rattle.site_core.specs.Follows.{carried, IsOf, IsRefusedFor}
 use Rattle.site_core.proofs.CallCauses.{cause_by}
 use Rattle.site_core.proofs.Fulls.{passes_this, to_record_write, record_to_write, carry_full}
 use Rattle.site_core.proofs.site.Site.write_record.Goals as goal
@@ -95,3 +96,9 @@ returns-in-Err-clause-accounted g c = on_ok c.carry.result (λ x.
       cause = subst (λ (b : Rack _). IsRefusedFor may old (states_of g.D.Device.state b) (reply.Refused x.0)) (sym c.carry.ensures.bay) (refused_for (Unit {0}) may old (states_of g.D.Device.state c.put_member.new.bay) c.in-Err.trouble x.0 x.1 why);
     }))
     c.carry.ensures.core
+
+pub returns-in-Err-clause-told : goal.returns-in-Err-clause-told
+returns-in-Err-clause-told g c = on_ok c.carry.result (λ x. tells_nothing (IsOf actor.Encoder) (MayWrite actor.Encoder c.args.self.now.programs c.args.self.now.core) g.D.Device.state c.args.self.now c.carry.new.self c.carry.ensures.history) c.carry.ensures.core
+
+pub returns-in-Err-clause-calm : goal.returns-in-Err-clause-calm
+returns-in-Err-clause-calm g c = on_err c.carry.result (λ memory. memory_calm g.D.Device.state c.args.self.now c.carry.new.self c.put_member.new.bay c.carry.ensures.bay (Unit {0}) _ c.in-Err.trouble c.in-Err.ensures.cause memory) c.carry.ensures.memory

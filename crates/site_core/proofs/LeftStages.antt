@@ -1,0 +1,391 @@
+-- What a stop leaves of the datasets in cache, at each stage of a run.
+use Rattle.std.proofs.Common.{◌≡◌, ◌≢◌, ◌⊎◌, inl, inr, ℕ, zero, suc, ◌/◌, ◌<◌, ◌≤◌, ◌^◌, Bool, true, false, List, [], ◌∷◌, map, Option, Some, None, refl, sym, ap, ◌∙◌, subst, slice_get, arith}
+use Rattle.std.specs.Prelude.{option_map, slice_index}
+use Rattle.std.specs.List.{list_any}
+use Rattle.scr_base.specs.Sets.{numbers_below}
+use Rattle.scr_base.specs.declared.content.Step.{Step}
+use Rattle.scr_base.specs.declared.shape.DataId.{DataId}
+use Rattle.scr_base.specs.declared.shape.Shape.{Shape}
+use Rattle.node_device.specs.File.{File, IsAtRest, IsPartlySynced, MayLeave, byte_at}
+use Rattle.node_device.specs.DeviceState.{DeviceState}
+use Rattle.node_device.specs.Outcomes.{rest_leaves, true_or_false}
+use Rattle.node_device.specs.Rack.{OnlyAt}
+use Rattle.gated_record.specs.Record.{IsOpen}
+use Rattle.gate_outcomes.specs.Leaves.{Leaves}
+use Rattle.filemap.specs.Maps.{rows_of}
+use Rattle.filemap.specs.declared.rows.FileRow.{FileRow}
+use Rattle.member_store.specs.Names.{record_name, IsPlace, IsNameOf}
+use Rattle.member_store.specs.Members.{member_body}
+use Rattle.ckpt_model.specs.declared.event.Event.{Event}
+use Rattle.ckpt_model.specs.Machine.{Machine, Kept}
+use Rattle.site_core.specs.declared.cache.Cached.{Cached}
+use Rattle.site_core.specs.declared.cache.Manifest.{Manifest}
+use Rattle.site_core.specs.declared.cache.Mark.TheVariants as mark
+use Rattle.site_core.specs.declared.core_state.Core.{Core}
+use Rattle.site_core.specs.declared.core_state.Stage.{Stage}
+use Rattle.site_core.specs.declared.core_state.Stage.TheVariants as stage
+use Rattle.site_core.specs.declared.core_state.Work.{Work}
+use Rattle.site_core.specs.declared.core_state.Work.TheVariants as work
+use Rattle.site_core.specs.Calls.{KeptAlike, Unturned}
+use Rattle.site_core.specs.Choosing.{is_being_sealed, seals}
+use Rattle.site_core.specs.Shown.{Contents, running, setup_of, kept_of}
+use Rattle.site_core.specs.Waiting.{is_over}
+use Rattle.site_core.specs.Stored.{Cells, cells_of, contents_of, contents_in, file_name, place_of_rank, FilesStand, FileStands, RecordsStand, NoOtherRecords, IsAmong, IsKnown, IsWell, IsOfSite, FilesHold, RecordIs}
+use Rattle.site_core.specs.Left.{LeavesSaved, LeavesWhole, IsOfWhole, LeavesCache, LeavesKept, is_sealing_work, is_filling_at}
+use Rattle.site_core.specs.Holds.{IsOneOf, settled_set, HoldsAt, IsUp, IsSaved, IsSaving, IsPending, IsFileOf, IsOfDataset, IsLeavingAt, WorkIs, NoRecordYet, is_whole_at, is_sealed_at}
+use Rattle.site_core.proofs.Frames.{is_place, file_no_record, div_small, place_named}
+use Rattle.site_core.proofs.Puts.{few_nodes, few_rows, row_rank, row_named, node_below, place_is, kept_other}
+use Rattle.site_core.proofs.Losses.{file_of}
+use Rattle.site_core.proofs.Refusals.{cells_alike, refused_rest}
+use Rattle.site_core.proofs.RefusedCalls.{same_partly}
+use Rattle.gate_outcomes.proofs.Stays.{torn_shut}
+use Rattle.site_core.proofs.Saving.{LeavesRecord, place_of_node, put_leaves}
+use Rattle.site_core.proofs.SaveEnds.{none-passes}
+use Rattle.site_core.proofs.LeftFiles.{alike_partly, has_byte, turned_whole}
+use Rattle.site_core.proofs.LeftCaches.{CacheFacts, cache_left, kept_on, low_place, home_is}
+
+-- what is known of the datasets in cache, and of the places
+pub record IsLeft (c : Core) (states : ℕ → DeviceState) (m : Machine) : Type 0 where
+  pub places : c.places ≡ numbers_below c.shape.nodes
+  pub leaves : LeavesKept (setup_of c) c.places states m
+
+some_same : {X : Type 0} (x y : X) → Some x ≡ Some y → x ≡ y
+some_same x y e = cc
+
+not_left : (f : File) → IsAtRest f → f.now ≡ None → (o : Option (List ℕ)) → MayLeave f o → IsOpen o 1 → ⊥
+not_left f rest none o may opens = absurd (omega (arith, opens, ap (λ (x : Option (List ℕ)). byte_at x 1) (rest_leaves f o rest may ∙ none)))
+
+-- ## Before recovery has looked
+
+-- a dataset as a run leaves it
+record IsSettledSet (sets : List Manifest) (i : ℕ) (x : Cached) : Type 0 where
+  pub set : Manifest
+  pub at : slice_get sets i ≡ Some set
+  pub is : settled_set set ≡ x
+
+set_at : (sets : List Manifest) (i : ℕ) (x : Cached) → slice_get (map settled_set sets) i ≡ Some x → IsSettledSet sets i x
+set_at [] i x at = absurd (cc at)
+set_at (y ∷ ys) zero x at = record { set = y; at = refl; is = some_same (settled_set y) x at }
+set_at (y ∷ ys) (suc i) x at = let s = set_at ys i x at in record { set = s.set; at = s.at; is = s.is }
+
+set_there : (sets : List Manifest) (i : ℕ) (y : Manifest) → slice_get sets i ≡ Some y → slice_get (map settled_set sets) i ≡ Some (settled_set y)
+set_there [] i y at = absurd (cc at)
+set_there (z ∷ zs) zero y at = ap (λ (o : Option Manifest). option_map settled_set o) at
+set_there (z ∷ zs) (suc i) y at = set_there zs i y at
+
+early_left : (shape : Shape) (run : ℕ) (places : List ℕ) (states : ℕ → DeviceState) (sets : List Manifest) → places ≡ numbers_below shape.nodes → ((x : Manifest) → IsOneOf sets x → IsOfSite shape run x)
+    → ((x : Manifest) → IsOneOf sets x → FilesStand (cells_of states) places shape.ranks x) → ((x : Manifest) → IsOneOf sets x → RecordsStand (cells_of states) places x) → NoOtherRecords (IsOneOf sets) (cells_of states) places
+    → ((p : ℕ) (q : List ℕ) → p < 32 → IsAtRest ((states p).file q)) → LeavesCache places shape.ranks states (map settled_set sets)
+early_left shape run places states sets are of_site files records others quiet = cache_left shape run places states (map settled_set sets) None None (record {
+  places_are = are;
+  of_site = λ i x at. let s = set_at sets i x at in subst (λ (y : Cached). IsOfSite shape run y.manifest) s.is (of_site s.set (i, s.at));
+  files = λ i x at. let s = set_at sets i x at in subst (λ (y : Cached). FilesStand (cells_of states) places shape.ranks y.manifest) s.is (files s.set (i, s.at));
+  records = λ i x at calm. let s = set_at sets i x at in subst (λ (y : Cached). RecordsStand (cells_of states) places y.manifest) s.is (records s.set (i, s.at));
+  others = λ p which node low at foreign. others p which node low at (λ m one same home. foreign m (inr (one.0, settled_set m, set_there sets one.0 m one.1, refl)) same home);
+  quiet = λ p q low calm. quiet p q low;
+  apart = λ i x at calm m e. absurd (cc e);
+  sealing = λ i x at sealed. let s = set_at sets i x at in absurd (cc (ap (λ (y : Cached). is_being_sealed y.mark) s.is, sealed));
+  opening = λ m e. absurd (cc e);
+  known = λ m e. absurd (cc e);
+  away = λ m e. absurd (cc e);
+})
+
+-- ## A run that is up
+
+-- a file of the dataset is under a name of it
+file_is_of : (c : Core) (x : Manifest) (q : List ℕ) → IsFileOf c x q → IsOfDataset x.desc.which q
+file_is_of c x q file = (file.0 / c.shape.ranks, div_small file.0 c.shape.ranks file.2, subst (λ (name : List ℕ). IsNameOf x.desc.which (file.0 / c.shape.ranks) name) (sym file.4) (file_of x.desc.which c.shape.ranks file.0 file.1 file.2 file.3))
+
+-- a record's name is no file's
+no_record_file : (c : Core) (m x : Manifest) (node : ℕ) → IsPlace m.desc.which node → IsFileOf c x (record_name m.desc.which node) → ⊥
+no_record_file c m x node at file =
+    let of = is_place x.desc 0 (omega arith) in
+    file_no_record x.desc.which m.desc.which c.shape.ranks file.0 file.1 node (record { id = of.id; run = of.run; rank_is = file.2; file = file.3 }) at (sym file.4)
+
+home_place : (c : Core) (m : Manifest) (node p : ℕ) → c.places ≡ numbers_below c.shape.nodes → slice_get c.places node ≡ Some p → IsPlace m.desc.which node
+home_place c m node p are home = is_place m.desc node (omega (arith, (home_is c.shape c.places node p are home).1, few_nodes c.shape))
+
+home_low : (c : Core) (node p : ℕ) → c.places ≡ numbers_below c.shape.nodes → slice_get c.places node ≡ Some p → p < 32
+home_low c node p are home = let is = home_is c.shape c.places node p are home in omega (arith, is.0, is.1, few_nodes c.shape)
+
+module _ (c : Core) (states : ℕ → DeviceState) (well : IsWell c) (files : FilesHold c (cells_of states)) (quiet : (p : ℕ) (q : List ℕ) → p ≤ 32 → (p < c.shape.nodes → IsPending stage.Serving c q → ⊥) → IsAtRest ((states p).file q))
+    (none : NoRecordYet stage.Serving c (cells_of states)) (calm : list_any seals c.kept ≡ false) where
+  unsealed : (m : Manifest) → c.opened ≡ Some m → (p node : ℕ) → p < 32 → IsPlace m.desc.which node → (o : Option (List ℕ)) → MayLeave ((states p).file (record_name m.desc.which node)) o → IsOpen o 1 → ⊥
+  unsealed m is p node low at = not_left ((states p).file (record_name m.desc.which node))
+      (quiet p (record_name m.desc.which node) (omega (arith, low)) (λ lt pending. no_record_file c m pending.0 node at pending.2)) (none m is p node low at)
+
+  serving_left : LeavesCache c.places c.shape.ranks states c.kept
+  serving_left = cache_left c.shape c.run c.places states c.kept c.opened c.opened (record {
+    places_are = well.places;
+    of_site = λ i x at. well.sets x.manifest (inr (i, x, at, refl));
+    files = λ i x at. files.files x.manifest (inr (i, x, at, refl));
+    records = files.records;
+    others = files.others;
+    quiet = λ p q low away. quiet p q (omega (arith, low)) (λ lt pending. away pending.0 pending.1 (file_is_of c pending.0 q pending.2));
+    apart = λ i x at still m is. kept_other c m x.manifest well is (i, x, at, refl);
+    sealing = λ i x at sealed. absurd (cc (none-passes seals c.kept i x calm at, sealed));
+    opening = λ m is node p home o may opens. absurd (unsealed m is p node (home_low c node p well.places home) (home_place c m node p well.places home) o may opens);
+    known = λ m is no_open no_kept. no_open is;
+    away = λ m is p node low at off. unsealed m is p node low at;
+  })
+
+-- ## A dataset that is being saved
+
+-- What is known of the files while a dataset is being saved, though a gate was refused.
+pub record IsLoose (w : Work) (n : ℕ) (c : Core) (m : Manifest) (states : ℕ → DeviceState) : Type 0 where
+  pub well : IsWell c
+  pub files : FilesHold c (cells_of states)
+  pub quiet : (p : ℕ) (q : List ℕ) → p ≤ 32 → (p < c.shape.nodes → IsPending (stage.Saving w n) c q → ⊥) → IsAtRest ((states p).file q)
+  pub saved : IsSaved w n c m
+  pub open_yet : is_sealing_work w ≡ false → c.opened ≡ Some m
+  pub apart : (i : ℕ) (x : Cached) → slice_get c.kept i ≡ Some x → is_being_sealed x.mark ≡ false → x.manifest.desc.which ≢ m.desc.which
+  pub one : (i : ℕ) (x : Cached) → slice_get c.kept i ≡ Some x → is_being_sealed x.mark ≡ true → x.manifest ≡ m
+  pub leaves : LeavesSaved w n c.places m states
+
+pub loose_of : (first : Machine) (c : Core) (programs : List (List Step)) (states : ℕ → DeviceState) (events : List Event) (w : Work) (n : ℕ) (m : Manifest) → IsSaving first c programs states events w n m → IsLoose w n c m states
+loose_of first c programs states events w n m h = record { well = h.well; files = h.files; quiet = h.quiet; saved = h.saved; open_yet = h.saves.open_yet; apart = h.saves.apart; one = h.saves.one; leaves = h.saves.leaves }
+
+filled : (w : Work) (n i : ℕ) → is_sealing_work w ≡ true → is_filling_at w n i ≡ false
+filled work.Record n i e = absurd (cc e)
+filled work.RecordSync n i e = absurd (cc e)
+filled work.Whole n i e = refl
+filled work.WholeSync n i e = refl
+filled work.Sealed n i e = refl
+filled work.SealedSync n i e = refl
+
+module _ (w : Work) (n : ℕ) (c : Core) (m : Manifest) (states : ℕ → DeviceState) (h : IsLoose w n c m states) where
+  -- the one dataset in hand
+  is_it : (x : Manifest) → IsSaved w n c x → x ≡ m
+  is_it x saved = pick saved h.saved where
+    pick : IsSaved w n c x → IsSaved w n c m → x ≡ m
+    pick (inl a) (inl b) = some_same x m (sym a ∙ b)
+    pick (inl a) (inr b) = absurd (cc (a, b.0))
+    pick (inr a) (inl b) = absurd (cc (b, a.0))
+    pick (inr a) (inr b) = sym a.1.3 ∙ h.one a.1.1 a.1.0 a.1.2 (ap is_being_sealed a.1.4)
+
+  known : IsKnown c m
+  known = pick h.saved where
+    pick : IsSaved w n c m → IsKnown c m
+    pick (inl is) = inl is
+    pick (inr s) = inr (s.1.1, s.1.0, s.1.2, s.1.3)
+
+  -- once gates `sealed` are being opened, all of it is left whole
+  saved_whole : is_sealing_work w ≡ true → LeavesWhole c.places c.shape.ranks states m
+  saved_whole late = record {
+    records = h.leaves.whole late;
+    files = λ rank j row there o may.
+        let of = h.well.sets m known in
+        let lt = row_rank m.files rank j row there in
+        let name = row_named c.shape c.run m rank j of lt (omega (arith, few_rows c.shape c.run m rank of lt, Rattle.std.proofs.lemmas.Option.slice_get_within (rows_of m.files rank) j row there)) in
+        let node = node_below c.shape rank (omega (arith, lt, of.files.ranks_are)) in
+        let at = place_is c.shape c.places (rank / c.shape.ranks) h.well.places node in
+        let home : slice_get c.places (rank / c.shape.ranks) ≡ Some (place_of_rank c.places c.shape.ranks rank) = home_there (rank / c.shape.ranks) node ∙ ap Some (sym at) in
+        let rest = h.leaves.parts (rank / c.shape.ranks) (place_of_rank c.places c.shape.ranks rank) (file_name m.desc.which c.shape.ranks rank j) home (filled w n (rank / c.shape.ranks) late)
+            (λ e. file_no_record m.desc.which m.desc.which c.shape.ranks rank j (rank / c.shape.ranks) name (place_named m.desc.which rank j c.shape.ranks name) e) in
+        let same = rest_leaves ((states (place_of_rank c.places c.shape.ranks rank)).file (file_name m.desc.which c.shape.ranks rank j)) o rest may in
+        (subst (λ (b : Option (List ℕ)). FileStands b row) (sym same) (h.files.files m known rank j row there), same);
+  } where
+    home_there : (k : ℕ) → k < c.shape.nodes → slice_get c.places k ≡ Some k
+    home_there k lt = Rattle.site_core.proofs.SaveEnds.home_of c k h.well lt
+
+  saving_cache : LeavesCache c.places c.shape.ranks states c.kept
+  saving_cache = cache_left c.shape c.run c.places states c.kept c.opened (Some m) (record {
+    places_are = h.well.places;
+    of_site = λ i x at. h.well.sets x.manifest (inr (i, x, at, refl));
+    files = λ i x at. h.files.files x.manifest (inr (i, x, at, refl));
+    records = h.files.records;
+    others = h.files.others;
+    quiet = λ p q low away. h.quiet p q (omega (arith, low)) (λ lt pending. of_hand q (away m refl) pending.0 (is_it pending.0 pending.1) pending.2);
+    apart = λ i x at still y is. λ same. h.apart i x at still (same ∙ ap (λ (z : Manifest). z.desc.which) (sym (some_same m y is)));
+    sealing = λ i x at sealed. subst (λ (z : Manifest). LeavesWhole c.places c.shape.ranks states z) (sym (h.one i x at sealed)) (saved_whole (late_of i x at sealed (true_or_false (is_sealing_work w))));
+    opening = λ y is node p home o may opens. at_open y is node p home (true_or_false (is_sealing_work w)) o may opens;
+    known = λ y is no_open no_kept. pick_known (some_same m y is) no_open no_kept known;
+    away = λ y is p node low at off. subst (λ (z : Manifest). IsPlace z.desc.which node → (o : Option (List ℕ)) → MayLeave ((states p).file (record_name z.desc.which node)) o → IsOpen o 1 → ⊥) (some_same m y is) (λ place. off_home p node low place off) at;
+  }) where
+    of_hand : (q : List ℕ) → (IsOfDataset m.desc.which q → ⊥) → (x : Manifest) → x ≡ m → IsFileOf c x q ⊎ ((node : ℕ) × (node < 2 ^ 8) × (q ≡ record_name x.desc.which node)) → ⊥
+    of_hand q away x is (inl file) = away (subst (λ (z : Manifest). IsOfDataset z.desc.which q) is (file_is_of c x q file))
+    of_hand q away x is (inr record_is) = away (subst (λ (z : Manifest). IsOfDataset z.desc.which q) is (record_is.0, record_is.1, inl record_is.2))
+
+    late_of : (i : ℕ) (x : Cached) → slice_get c.kept i ≡ Some x → is_being_sealed x.mark ≡ true → (is_sealing_work w ≡ true) ⊎ (is_sealing_work w ≡ false) → is_sealing_work w ≡ true
+    late_of i x at sealed (inl late) = late
+    late_of i x at sealed (inr early) = absurd (kept_other c m x.manifest h.well (h.open_yet early) (i, x, at, refl) (ap (λ (z : Manifest). z.desc.which) (h.one i x at sealed)))
+
+    opened_it : (y : Manifest) → c.opened ≡ Some y → y ≡ m
+    opened_it y is = is_it y (inl is)
+
+    at_open : (y : Manifest) → c.opened ≡ Some y → (node p : ℕ) → slice_get c.places node ≡ Some p → (is_sealing_work w ≡ true) ⊎ (is_sealing_work w ≡ false) → (o : Option (List ℕ)) → MayLeave ((states p).file (record_name y.desc.which node)) o → IsOpen o 1 → IsOfWhole c.places c.shape.ranks states y.desc.which node p
+    at_open y is node p home (inl late) o may opens = record { set = m; which_is = ap (λ (z : Manifest). z.desc.which) (sym (opened_it y is)); home = home; whole = saved_whole late }
+    at_open y is node p home (inr early) o may opens = absurd ((h.leaves.unsealed early node p home).shut o (subst (λ (z : Manifest). MayLeave ((states p).file (record_name z.desc.which node)) o) (opened_it y is) may) opens)
+
+    pick_known : {y : Manifest} → m ≡ y → (c.opened ≡ Some y → ⊥) → (IsAmong c.kept y → ⊥) → IsKnown c m → ⊥
+    pick_known same no_open no_kept (inl is) = no_open (is ∙ ap Some same)
+    pick_known same no_open no_kept (inr among) = no_kept (among.0, among.1, among.2, among.3 ∙ same)
+
+    off_home : (p node : ℕ) → p < 32 → IsPlace m.desc.which node → (slice_get c.places node ≡ Some p → ⊥) → (o : Option (List ℕ)) → MayLeave ((states p).file (record_name m.desc.which node)) o → IsOpen o 1 → ⊥
+    off_home p node low place off = not_left ((states p).file (record_name m.desc.which node)) (h.leaves.elsewhere p node low place off) (h.files.others p m.desc.which node low place (λ y is same home. off home))
+
+  pub loose_left : IsLeft c states (running (contents_of (cells_of states) c) c)
+  loose_left = record { places = h.well.places; leaves = record { sets = c.kept; kept = refl; cache = saving_cache } }
+
+-- ## A dataset on its way out
+
+leaving_left : (gone settled : ℕ → Bool) (c : Core) (states : ℕ → DeviceState) (m : Machine) → IsLeavingAt gone settled c states m → IsLeft c states m
+leaving_left gone settled c states m h = record {
+  places = h.well.places;
+  leaves = record {
+    sets = c.kept;
+    kept = ap (λ (x : Machine). x.kept) h.is;
+    cache = cache_left c.shape c.run c.places states c.kept c.opened (Some h.set) (record {
+      places_are = h.well.places;
+      of_site = λ i x at. h.well.sets x.manifest (inr (i, x, at, refl));
+      files = λ i x at. h.files x.manifest (i, x, at, refl);
+      records = λ i x at calm. h.records i x at;
+      others = h.others;
+      quiet = λ p q low away. h.quiet p q (omega (arith, low)) (λ lt un of. away h.set refl of);
+      apart = λ i x at still y is. λ same. kept_other c h.set x.manifest h.well h.opened (i, x, at, refl) (same ∙ ap (λ (z : Manifest). z.desc.which) (sym (some_same h.set y is)));
+      sealing = λ i x at sealed. absurd (cc (none-passes seals c.kept i x h.sealed at, sealed));
+      opening = λ y is node p home o may opens. absurd (shut_of y (some_same h.set y (sym h.opened ∙ is)) p node (home_low c node p h.well.places home) (home_place c y node p h.well.places home) o may opens);
+      known = λ y is no_open no_kept. no_open (h.opened ∙ is);
+      away = λ y is p node low at off. shut_of y (some_same h.set y is) p node low at;
+    });
+  };
+} where
+  shut_of : (y : Manifest) → h.set ≡ y → (p node : ℕ) → p < 32 → IsPlace y.desc.which node → (o : Option (List ℕ)) → MayLeave ((states p).file (record_name y.desc.which node)) o → IsOpen o 1 → ⊥
+  shut_of y same p node low = subst (λ (z : Manifest). IsPlace z.desc.which node → (o : Option (List ℕ)) → MayLeave ((states p).file (record_name z.desc.which node)) o → IsOpen o 1 → ⊥) same (λ at. (h.unsealed p node low at).shut)
+
+-- ## Every stage of a run that isn't over
+
+pub stage_left : (s : Stage) (c : Core) (states : ℕ → DeviceState) (m : Machine) → c.stage ≡ s → is_over s ≡ false → HoldsAt s c states m → IsLeft c states m
+stage_left stage.Begun c states m at on h = record {
+  places = h.fresh.places;
+  leaves = record {
+    sets = map settled_set h.stands.sets;
+    kept = subst (λ (ps : List ℕ). m.kept ≡ map (kept_of (setup_of c) (contents_in (cells_of states) ps c.shape.ranks) ps) (map settled_set h.stands.sets)) (sym h.fresh.places) h.stands.kept;
+    cache = early_left c.shape m.run c.places states h.stands.sets h.fresh.places h.stands.store.sets_are
+        (λ x is. subst (λ (ps : List ℕ). FilesStand (cells_of states) ps c.shape.ranks x) (sym h.fresh.places) (h.stands.store.files x is))
+        (λ x is. subst (λ (ps : List ℕ). RecordsStand (cells_of states) ps x) (sym h.fresh.places) (h.stands.store.records x is))
+        (subst (λ (ps : List ℕ). NoOtherRecords (IsOneOf h.stands.sets) (cells_of states) ps) (sym h.fresh.places) h.stands.store.others)
+        (λ p q low. h.stands.quiet p q (omega (arith, low)));
+  };
+}
+stage_left stage.Storing c states m at on h = record {
+  places = h.fresh.places;
+  leaves = record {
+    sets = map settled_set h.sets;
+    kept = h.kept;
+    cache = early_left c.shape m.run c.places states h.sets h.fresh.places h.sets_are h.files h.records h.others (λ p q low. h.quiet p q (omega (arith, low)) (λ is. absurd (omega (arith, is, low))));
+  };
+}
+stage_left stage.Looking c states m at on h = record {
+  places = h.fresh.places;
+  leaves = record {
+    sets = map settled_set h.sets;
+    kept = ap (λ (x : Machine). x.kept) h.is;
+    cache = early_left c.shape c.run c.places states h.sets h.fresh.places h.store.sets_are
+        (λ x is. subst (λ (ps : List ℕ). FilesStand (cells_of states) ps c.shape.ranks x) (sym h.fresh.places) (h.store.files x is))
+        (λ x is. subst (λ (ps : List ℕ). RecordsStand (cells_of states) ps x) (sym h.fresh.places) (h.store.records x is))
+        (subst (λ (ps : List ℕ). NoOtherRecords (IsOneOf h.sets) (cells_of states) ps) (sym h.fresh.places) h.store.others)
+        (λ p q low. h.quiet p q (omega (arith, low)));
+  };
+}
+stage_left stage.Mending c states m at on h =
+    let working : WorkIs stage.Mending c states = subst (λ (s : Stage). WorkIs s c states) at h.working in
+    record {
+      places = h.well.places;
+      leaves = record {
+        sets = c.kept;
+        kept = ap (λ (x : Machine). x.kept) h.is;
+        cache = serving_left c states h.well h.files (subst (λ (s : Stage). (p : ℕ) (q : List ℕ) → p ≤ 32 → (p < c.shape.nodes → IsPending s c q → ⊥) → IsAtRest ((states p).file q)) at h.quiet) (subst (λ (s : Stage). NoRecordYet s c (cells_of states)) at h.unrecorded) working.1;
+      };
+    }
+stage_left stage.Serving c states m at on h =
+    let working : WorkIs stage.Serving c states = subst (λ (s : Stage). WorkIs s c states) at h.working in
+    record {
+      places = h.well.places;
+      leaves = record {
+        sets = c.kept;
+        kept = ap (λ (x : Machine). x.kept) h.is;
+        cache = serving_left c states h.well h.files (subst (λ (s : Stage). (p : ℕ) (q : List ℕ) → p ≤ 32 → (p < c.shape.nodes → IsPending s c q → ⊥) → IsAtRest ((states p).file q)) at h.quiet) (subst (λ (s : Stage). NoRecordYet s c (cells_of states)) at h.unrecorded) working.1;
+      };
+    }
+stage_left (stage.Saving w n) c states m at on h =
+    let working : WorkIs (stage.Saving w n) c states = subst (λ (s : Stage). WorkIs s c states) at h.working in
+    let x = working.0 in
+    let loose : IsLoose w n c x states = record {
+      well = h.well;
+      files = h.files;
+      quiet = subst (λ (s : Stage). (p : ℕ) (q : List ℕ) → p ≤ 32 → (p < c.shape.nodes → IsPending s c q → ⊥) → IsAtRest ((states p).file q)) at h.quiet;
+      saved = working.1;
+      open_yet = working.2.open_yet;
+      apart = working.2.apart;
+      one = working.2.one;
+      leaves = working.2.leaves;
+    } in
+    subst (λ (y : Machine). IsLeft c states y) (sym h.is) (loose_left w n c x states loose)
+stage_left (stage.Dropping d n) c states m at on h = leaving_left _ _ c states m h.leaves
+stage_left stage.Dropped c states m at on h = leaving_left _ _ c states m h
+stage_left stage.Stopped c states m at on h = absurd (cc on)
+stage_left stage.Cut c states m at on h = absurd (cc on)
+
+-- ## After a call that was refused
+
+-- what reads give is the same, and a stop leaves no more
+pub left_on : (c : Core) (states after : ℕ → DeviceState) (m : Machine) → ((p : ℕ) (q : List ℕ) → p < 32 → IsPartlySynced ((states p).file q) ((after p).file q)) → ((p : ℕ) (q : List ℕ) → p < 32 → cells_of after p q ≡ cells_of states p q) → IsLeft c states m → IsLeft c after m
+left_on c states after m partly same l = record { places = l.places; leaves = kept_on (setup_of c) c.places states after m (λ k. low_place c.shape c.places k l.places) partly same l.leaves }
+
+-- the nodes are as they were
+pub left_apart : (c : Core) (states after : ℕ → DeviceState) (m : Machine) → ((p : ℕ) → p ≢ 32 → after p ≡ states p) → IsLeft c states m → IsLeft c after m
+left_apart c states after m apart = left_on c states after m (λ p q low. same_partly ((states p).file q) ((after p).file q) (ap (λ (d : DeviceState). d.file q) (apart p (not_prefix p low)))) (λ p q low. ap (λ (d : DeviceState). (d.file q).now) (apart p (not_prefix p low))) where
+  not_prefix : (p : ℕ) → p < 32 → p ≢ 32
+  not_prefix p low is = absurd (omega (arith, low, is))
+
+-- a read, a sync or a removal was refused
+pub left_alike : (c : Core) (place : ℕ) (states after : ℕ → DeviceState) (m : Machine) → OnlyAt place KeptAlike states after → IsLeft c states m → IsLeft c after m
+left_alike c place states after m done =
+    left_on c states after m (λ p q low. alike_partly place states after done p q) (λ p q low. ap (λ (cells : Cells). cells p q) (cells_alike place states after done.here.alike done.others))
+
+-- a gate of the dataset that is being saved was refused
+module _ (first : Machine) (c : Core) (programs : List (List Step)) (states after : ℕ → DeviceState) (events : List Event) (w : Work) (n : ℕ) (m : Manifest) (h : IsSaving first c programs states events w n m) (place gate : ℕ) (home : slice_get c.places n ≡ Some place)
+    (done : OnlyAt place (Unturned (record_name m.desc.which n) gate) states after) where
+  same_cells : cells_of after ≡ cells_of states
+  same_cells = cells_alike place states after done.here.refused.alike done.others
+
+  gate_loose : LeavesRecord w ((after place).file (record_name m.desc.which n)) (member_body m.desc n m.files) → IsLoose w n c m after
+  gate_loose left = record {
+    well = h.well;
+    files = subst (λ (cells : Cells). FilesHold c cells) (sym same_cells) h.files;
+    quiet = λ p q low calm. refused_rest place states after (record_name m.desc.which n) (record { here = done.here.refused; others = done.others }) p q
+        (λ here is. let at = place_of_node c n place h.well home in calm (omega (arith, here, at.0, at.1)) (m, h.saved, inr (n, omega (arith, at.1, few_nodes c.shape), is))) (h.quiet p q low calm);
+    saved = h.saved;
+    open_yet = h.saves.open_yet;
+    apart = h.saves.apart;
+    one = h.saves.one;
+    leaves = put_leaves w w n c m states after h.well place home h.saves.leaves (record { here = done.here.only; others = done.others }) (λ i e. e) refl left;
+  }
+
+  pub gate_left : LeavesRecord w ((after place).file (record_name m.desc.which n)) (member_body m.desc n m.files) → IsLeft c after (running (contents_of (cells_of states) c) c)
+  gate_left left = subst (λ (cells : Cells). IsLeft c after (running (contents_of cells c) c)) same_cells (loose_left w n c m after (gate_loose left))
+
+-- of a gate `whole`
+pub whole_refused : (first : Machine) (c : Core) (programs : List (List Step)) (states after : ℕ → DeviceState) (events : List Event) (n : ℕ) (m : Manifest) → IsSaving first c programs states events work.Whole n m → (place : ℕ) → slice_get c.places n ≡ Some place
+    → OnlyAt place (Unturned (record_name m.desc.which n) 0) states after → IsLeft c after (running (contents_of (cells_of states) c) c)
+whole_refused first c programs states after events n m h place home done =
+    let f = (states place).file (record_name m.desc.which n) in
+    let was : RecordIs f.now m n (is_whole_at work.Whole n n) false = h.saves.records n place home in
+    gate_left first c programs states after events work.Whole n m h place 0 home done (record {
+      unsealed = λ early. torn_shut 0 1 f ((after place).file (record_name m.desc.which n)) (λ e. absurd (omega (arith, e)))
+          (has_byte f (member_body m.desc n m.files) 0 (omega arith) (h.saves.quiet n place (record_name m.desc.which n) home refl) was.body) done.here.torn (h.saves.leaves.unsealed refl n place home);
+      whole = λ late. absurd (cc late);
+    })
+
+-- of a gate `sealed`
+pub sealed_refused : (first : Machine) (c : Core) (programs : List (List Step)) (states after : ℕ → DeviceState) (events : List Event) (n : ℕ) (m : Manifest) → IsSaving first c programs states events work.Sealed n m → (place : ℕ) → slice_get c.places n ≡ Some place
+    → OnlyAt place (Unturned (record_name m.desc.which n) 1) states after → IsLeft c after (running (contents_of (cells_of states) c) c)
+sealed_refused first c programs states after events n m h place home done =
+    let f = (states place).file (record_name m.desc.which n) in
+    let was : RecordIs f.now m n true (is_sealed_at work.Sealed n n) = h.saves.records n place home in
+    gate_left first c programs states after events work.Sealed n m h place 1 home done (record {
+      unsealed = λ early. absurd (cc early);
+      whole = λ late. turned_whole f ((after place).file (record_name m.desc.which n)) (member_body m.desc n m.files)
+          (has_byte f (member_body m.desc n m.files) 1 (omega arith) (h.saves.quiet n place (record_name m.desc.which n) home refl) was.body) done.here.torn (h.saves.leaves.whole refl n place home);
+    })

@@ -1,0 +1,74 @@
+-- What a stop may leave of the datasets of a run.
+use Rattle.std.specs.Prelude.{◌≡◌, ◌≢◌, ◌<◌, ℕ, Bool, true, false, nat_le, List, Some, slice_get}
+use Rattle.scr_base.specs.declared.shape.DataId.{DataId}
+use Rattle.node_device.specs.File.{IsAtRest}
+use Rattle.node_device.specs.DeviceState.{DeviceState}
+use Rattle.gated_record.specs.Record.{IsOpen}
+use Rattle.gate_outcomes.specs.Leaves.{Leaves}
+use Rattle.gate_outcomes.specs.Gates.{StaysShut, StaysOpen, StaysWhole}
+use Rattle.filemap.specs.Maps.{rows_of}
+use Rattle.filemap.specs.declared.rows.FileRow.{FileRow}
+use Rattle.member_store.specs.Names.{record_name, IsPlace}
+use Rattle.member_store.specs.Members.{member_body}
+use Rattle.ckpt_model.specs.Machine.{Machine, Setup}
+use Rattle.site_core.specs.declared.cache.Cached.{Cached}
+use Rattle.site_core.specs.declared.cache.Manifest.{Manifest}
+use Rattle.site_core.specs.declared.core_state.Work.{Work}
+use Rattle.site_core.specs.declared.core_state.Work.TheVariants as work
+use Rattle.site_core.specs.Shown.{kept_of, is_doubtful}
+use Rattle.site_core.specs.Stored.{cells_of, contents_in, place_of_rank, file_name, FileStands}
+use Rattle.std.specs.Prelude.{map}
+
+-- ## A dataset that is being saved
+
+-- a node's files may be pending: until its record is stable
+abbrev pub is_filling_at : Work → ℕ → ℕ → Bool
+is_filling_at work.Record n i = nat_le n i
+is_filling_at work.RecordSync n i = nat_le n i
+is_filling_at _ n i = false
+
+-- gates `sealed` are being opened
+abbrev pub is_sealing_work : Work → Bool
+is_sealing_work work.Sealed = true
+is_sealing_work work.SealedSync = true
+is_sealing_work _ = false
+
+-- Until the gates `sealed` are opened a stop leaves none of them open; from then on it leaves each record whole. But for records at home
+-- nothing is pending once these are stable.
+pub record LeavesSaved (w : Work) (n : ℕ) (places : List ℕ) (m : Manifest) (states : ℕ → DeviceState) : Type 0 where
+  pub elsewhere : (p node : ℕ) → p < 32 → IsPlace m.desc.which node → (slice_get places node ≡ Some p → ⊥) → IsAtRest ((states p).file (record_name m.desc.which node))
+  pub parts : (node p : ℕ) (q : List ℕ) → slice_get places node ≡ Some p → is_filling_at w n node ≡ false → q ≢ record_name m.desc.which node → IsAtRest ((states p).file q)
+  pub unsealed : is_sealing_work w ≡ false → (node p : ℕ) → slice_get places node ≡ Some p → StaysShut ((states p).file (record_name m.desc.which node)) 1
+  pub whole : is_sealing_work w ≡ true → (node p : ℕ) → slice_get places node ≡ Some p → StaysWhole ((states p).file (record_name m.desc.which node)) (member_body m.desc node m.files)
+
+-- no record of the dataset is left sealed
+abbrev pub NoneSealed : DataId → (ℕ → DeviceState) → Type 0
+NoneSealed which states = (p node : ℕ) → p < 32 → IsPlace which node → StaysShut ((states p).file (record_name which node)) 1
+
+-- ## The datasets in cache
+
+-- each node's record of the dataset is left whole, and each file as it reads now
+pub record LeavesWhole (places : List ℕ) (ranks : ℕ) (states : ℕ → DeviceState) (m : Manifest) : Type 0 where
+  pub records : (node p : ℕ) → slice_get places node ≡ Some p → StaysWhole ((states p).file (record_name m.desc.which node)) (member_body m.desc node m.files)
+  pub files : (rank j : ℕ) (row : FileRow) → slice_get (rows_of m.files rank) j ≡ Some row
+      → Leaves ((states (place_of_rank places ranks rank)).file (file_name m.desc.which ranks rank j)) (λ o. FileStands o row × (o ≡ cells_of states (place_of_rank places ranks rank) (file_name m.desc.which ranks rank j)))
+
+-- the record is a node's, at home, of a dataset that is left whole
+pub record IsOfWhole (places : List ℕ) (ranks : ℕ) (states : ℕ → DeviceState) (which : DataId) (node p : ℕ) : Type 0 where
+  pub set : Manifest
+  pub which_is : set.desc.which ≡ which
+  pub home : slice_get places node ≡ Some p
+  pub whole : LeavesWhole places ranks states set
+
+-- Whatever a stop leaves, each of these datasets is whole, and sealed unless it is in doubt; and no record is sealed but of a dataset
+-- that is whole.
+pub record LeavesCache (places : List ℕ) (ranks : ℕ) (states : ℕ → DeviceState) (sets : List Cached) : Type 0 where
+  pub whole : (i : ℕ) (x : Cached) → slice_get sets i ≡ Some x → LeavesWhole places ranks states x.manifest
+  pub sealed : (i : ℕ) (x : Cached) → slice_get sets i ≡ Some x → is_doubtful x.mark ≡ false → (node p : ℕ) → slice_get places node ≡ Some p → StaysOpen ((states p).file (record_name x.manifest.desc.which node)) 1
+  pub others : (p : ℕ) (which : DataId) (node : ℕ) → p < 32 → IsPlace which node → Leaves ((states p).file (record_name which node)) (λ o. IsOpen o 1 → IsOfWhole places ranks states which node p)
+
+-- the datasets that the machine keeps are left so
+pub record LeavesKept (s : Setup) (places : List ℕ) (states : ℕ → DeviceState) (m : Machine) : Type 0 where
+  pub sets : List Cached
+  pub kept : m.kept ≡ map (kept_of s (contents_in (cells_of states) places s.shape.ranks) places) sets
+  pub cache : LeavesCache places s.shape.ranks states sets
