@@ -3,4 +3,7 @@
 
 mod laws;
 
-pub use laws::{a_body_opens_no_gate, a_gate_at_rest_stays, a_gate_write_leaves_the_rest, a_removal_opens_no_gate, a_sync_leaves_no_more};
+pub use laws::{
+    a_body_opens_no_gate, a_gate_at_rest_stays, a_gate_write_leaves_the_rest,
+    a_removal_opens_no_gate, a_sync_leaves_no_more,
+};

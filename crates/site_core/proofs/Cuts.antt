@@ -30,7 +30,7 @@ use Rattle.ckpt_model.specs.Steps.{is_between, is_begun, is_round_and}
 use Rattle.ckpt_model.specs.Questions.{is_complete, is_running, is_recovering, first_call as machine_call}
 use Rattle.site_core.proofs.Gates.{both, round_is}
 use Rattle.site_core.proofs.Told.{tells_end}
-use Rattle.site_core.proofs.LeftStages.{IsLeft}
+use Rattle.site_core.proofs.LeftStages.{IsLeft, Remains, remains}
 
 abbrev no_choice : Choice
 no_choice = record { made = []; entries = []; took = false; stored = false }
@@ -127,7 +127,7 @@ cut_core c = record c { stage = stage.Cut }
 pub cut_short : (first : Machine) (c : Core) (programs : List (List Step)) (states : ℕ → DeviceState) (events events' : List Event) (why : StopCause) (m : Machine)
     → RunsTo (setup_of c) first events m → may_stop m why ≡ true → is_cut why ≡ true → events' ≡ events ++ event.Stop why ∷ []
     → IsTrue (begins_run c.places (events ++ event.Stop why ∷ [])) × AreOfPrograms programs (events ++ event.Stop why ∷ []) → IsTrue (list_all (λ e. not (is_stop e)) events)
-    → IsLeft c states m → Leads first (cut_core c) programs states events'
+    → Remains c states m why → Leads first (cut_core c) programs states events'
 cut_short first c programs states events events' why m run may cut more told goes left = record {
   state = after_stop (setup_of c) m no_choice;
   run = run_on (setup_of c) first m (after_stop (setup_of c) m no_choice) events events' (event.Stop why) more run (chosen (setup_of c) m why may cut);
@@ -141,7 +141,7 @@ cut_short first c programs states events events' why m run may cut more told goe
     steps = subst (λ (es : List Event). AreOfPrograms programs es) (sym more) told.1;
     goes_on = goes;
   };
-  left = record { front = events; cause = why; is = more; before = m; run = run; may = may; leaves = left.leaves };
+  left = record { front = events; cause = why; is = more; before = m; run = run; made = left.made; may = both _ _ (both _ _ may left.may) refl; leaves = left.leaves };
 }
 
 -- ## Where a device may end a run
@@ -154,7 +154,7 @@ cut_early first c programs states after events events' why at end more leads lef
     let none = nothing_told c.stage c.places programs events early leads.told in
     cut_short first c programs after events events' why leads.state leads.run (may_before leads.state why (still_between c.stage c states leads.state early leads.holds) end) (is_end_cut why end) more
     (subst (λ (es : List Event). IsTrue (begins_run c.places (es ++ event.Stop why ∷ [])) × AreOfPrograms programs (es ++ event.Stop why ∷ [])) (sym none) (refl, (tt, tt)))
-    (subst (λ (es : List Event). IsTrue (list_all (λ e. not (is_stop e)) es)) (sym none) refl) left
+    (subst (λ (es : List Event). IsTrue (list_all (λ e. not (is_stop e)) es)) (sym none) refl) (remains c after leads.state why left)
 
 -- the records are being read
 pub cut_looking : (first : Machine) (c : Core) (programs : List (List Step)) (states after : ℕ → DeviceState) (events events' : List Event) (why : StopCause)
@@ -162,12 +162,12 @@ pub cut_looking : (first : Machine) (c : Core) (programs : List (List Step)) (st
 cut_looking first c programs states after events events' why at end more leads left =
     let h : IsLooking c states leads.state = subst (λ (s : Stage). HoldsAt s c states leads.state) at leads.holds in
     let so_far : IsSoFar c.places programs events = subst (λ (s : Stage). ToldAt s c.places programs events) at leads.told in
-    cut_short first c programs after events events' why leads.state leads.run (may_begun leads.state why (ap (λ (m : Machine). is_begun m.stage) h.is) end) (is_end_cut why end) more (tells_end c.places programs events (event.Stop why) so_far tt) so_far.goes_on left
+    cut_short first c programs after events events' why leads.state leads.run (may_begun leads.state why (ap (λ (m : Machine). is_begun m.stage) h.is) end) (is_end_cut why end) more (tells_end c.places programs events (event.Stop why) so_far tt) so_far.goes_on (remains c after leads.state why left)
 
 -- a round of Complete is to be decided
 pub cut_round : (first : Machine) (c : Core) (programs : List (List Step)) (after : ℕ → DeviceState) (events events' : List Event) (node count : ℕ) (m : Machine) (valid : Bool)
     → RunsTo (setup_of c) first events m → is_complete m ≡ true → machine_call m ≡ Some (step.Complete valid) → IsSoFar c.places programs events → events' ≡ events ++ event.Stop (cause.Device node count) ∷ []
-    → IsLeft c after m → Leads first (cut_core c) programs after events'
+    → Remains c after m (cause.Device node count) → Leads first (cut_core c) programs after events'
 cut_round first c programs after events events' node count m valid run complete call so_far more left =
     cut_short first c programs after events events' (cause.Device node count) m run (may_round m node count valid complete call) refl more (tells_end c.places programs events (event.Stop (cause.Device node count)) so_far tt) so_far.goes_on left
 
@@ -181,11 +181,11 @@ told_ends (error.Full node used capacity) e = refl
 -- a device failed at a gate of the dataset that is being saved
 pub cut_saving : (first : Machine) (c : Core) (programs : List (List Step)) (states after : ℕ → DeviceState) (events events' : List Event) (t : Trouble) (w : Work) (n : ℕ) (m : Manifest)
     → IsSaving first c programs states events w n m → is_device_fault t ≡ true → events' ≡ events ++ event.Stop (cause_of t) ∷ []
-    → IsLeft c after (running (contents_of (cells_of states) c) c) → Leads first (cut_core c) programs after events'
-cut_saving first c programs states after events events' t w n m h fault more left = pick t fault more where
-  pick : (t : Trouble) → is_device_fault t ≡ true → events' ≡ events ++ event.Stop (cause_of t) ∷ [] → Leads first (cut_core c) programs after events'
-  pick (error.Fault node count) f e =
+    → Remains c after (running (contents_of (cells_of states) c) c) (cause_of t) → Leads first (cut_core c) programs after events'
+cut_saving first c programs states after events events' t w n m h fault more left = pick t fault more left where
+  pick : (t : Trouble) → is_device_fault t ≡ true → events' ≡ events ++ event.Stop (cause_of t) ∷ [] → Remains c after (running (contents_of (cells_of states) c) c) (cause_of t) → Leads first (cut_core c) programs after events'
+  pick (error.Fault node count) f e left =
       let bytes = contents_of (cells_of states) c in
       cut_round first c programs after events events' node count (running bytes c) h.saves.round.valid h.run (round_is c bytes ∙ h.saves.round.complete) (first_is c.ranks ∙ h.saves.round.first) h.so_far e left
-  pick error.Memory f e = absurd (cc f)
-  pick (error.Full node used capacity) f e = absurd (cc f)
+  pick error.Memory f e left = absurd (cc f)
+  pick (error.Full node used capacity) f e left = absurd (cc f)

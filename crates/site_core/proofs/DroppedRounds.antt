@@ -32,6 +32,7 @@ use Rattle.site_core.specs.Calls.{KeptAlike}
 use Rattle.site_core.specs.declared.error.Trouble.{Trouble}
 use Rattle.site_core.specs.declared.error.Trouble.TheVariants as error
 use Rattle.site_core.specs.declared.site.Site.{Site}
+use Rattle.ckpt_model.specs.declared.event.StopCause.TheVariants as cause
 use Rattle.site_core.specs.Causes.{is_device_fault, cause_of}
 use Rattle.site_core.specs.Follows.{Keeps, IsCarried}
 use Rattle.node_device.specs.Rack.{states_of}
@@ -42,7 +43,7 @@ use Rattle.site_core.specs.Stored.{Cells, cells_of, contents_of, IsKnown, NoOthe
 use Rattle.site_core.specs.Holds.{Leads, IsDropCause, IsDropped}
 use Rattle.site_core.proofs.Told.{leads_up, tells_more}
 use Rattle.site_core.proofs.Cuts.{cut_core, cut_round}
-use Rattle.site_core.proofs.LeftStages.{IsLeft, stage_left, left_alike}
+use Rattle.site_core.proofs.LeftStages.{IsLeft, remains, stage_left, left_alike}
 use Rattle.site_core.proofs.Turns.{leads_so}
 use Rattle.site_core.proofs.Gates.{both, round_is}
 use Rattle.site_core.proofs.Ranks.{first_is, owed_is}
@@ -173,7 +174,7 @@ cut_dropping first c programs states after events events' t d n at leads fault m
       let h = x.0.leaves in
       let bytes = contents_of (cells_of states) c in
       cut_round first c programs after events events' node count (with_dataset bytes c h.dataset) h.round.valid (subst (λ (m : Machine). RunsTo (setup_of c) first events m) h.is leads.run) (round_is c bytes ∙ h.round.complete) (first_is c.ranks ∙ h.round.first) x.1 e
-      (subst (λ (m : Machine). IsLeft c after m) h.is (left_alike c place states after leads.state done (stage_left (stage.Dropping d n) c states leads.state at refl x.0)))
+      (remains c after (with_dataset bytes c h.dataset) (cause.Device node count) (subst (λ (m : Machine). IsLeft c after m) h.is (left_alike c place states after leads.state done (stage_left (stage.Dropping d n) c states leads.state at refl x.0))))
   pick error.Memory f e = absurd (cc f)
   pick (error.Full node used capacity) f e = absurd (cc f)
 

@@ -19,7 +19,7 @@ use Rattle.site_core.specs.Holds.{HoldsAt, ToldAt, IsSoFar, Leads}
 use Rattle.site_core.specs.Waiting.{is_over}
 use Rattle.site_core.proofs.Cuts.{cut_short}
 use Rattle.site_core.proofs.Told.{tells_end}
-use Rattle.site_core.proofs.LeftStages.{stage_left}
+use Rattle.site_core.proofs.LeftStages.{stage_left, remains}
 
 one_of : (a b c : Bool) → a ≡ true → a || b || c ≡ true
 one_of true b c e = refl
@@ -83,7 +83,7 @@ pub halts : (first : Machine) (c : Core) (programs : List (List Step)) (states :
     → is_over c.stage ≡ false → events' ≡ events ++ event.Stop cause.Script ∷ [] → Leads first c programs states events → Leads first (record c { stage = stage.Cut }) programs states events'
 halts first c programs states events events' on more leads =
     let end = ending c.stage c.places programs events on leads.told in
-    cut_short first c programs states events events' cause.Script leads.state leads.run (may_halt c.stage c states leads.state on leads.holds) refl more end.0 end.1 (stage_left c.stage c states leads.state refl on leads.holds)
+    cut_short first c programs states events events' cause.Script leads.state leads.run (may_halt c.stage c states leads.state on leads.holds) refl more end.0 end.1 (remains c states leads.state cause.Script (stage_left c.stage c states leads.state refl on leads.holds))
 
 -- a test that tells whether it is over, and says no
 pub not_over : (says over : Bool) → (says ≡ true) ↔ (over ≡ true) → says ≡ false → over ≡ false

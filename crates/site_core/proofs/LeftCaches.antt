@@ -31,7 +31,7 @@ use Rattle.site_core.specs.Choosing.{is_being_sealed}
 use Rattle.site_core.specs.Shown.{Contents, kept_of, is_doubtful}
 use Rattle.site_core.specs.Stored.{Cells, cells_of, contents_in, is_named, place_of_rank, file_name, FilesStand, FileStands, RecordIs, RecordsStand, NoOtherRecords, IsAmong, IsOfSite}
 use Rattle.site_core.specs.Holds.{IsOfDataset}
-use Rattle.site_core.specs.Left.{LeavesWhole, IsOfWhole, LeavesCache, LeavesKept}
+use Rattle.site_core.specs.Left.{LeavesWhole, IsNoneOf, LeavesCache, LeavesKept}
 use Rattle.site_core.proofs.Frames.{is_place, place_named}
 use Rattle.site_core.proofs.Puts.{few_nodes, few_rows, row_rank, row_named, node_below, place_is}
 use Rattle.site_core.proofs.Losses.{not_of_other, file_of}
@@ -61,29 +61,11 @@ low_place shape places k are = pick (below_or_not k shape.nodes) where
 some_same : {X : Type 0} (x y : X) → Some x ≡ Some y → x ≡ y
 some_same x y e = cc
 
--- a dataset in this list
-pub record IsInList (sets : List Cached) (which : DataId) : Type 0 where
-  pub place : ℕ
-  pub set : Cached
-  pub at : slice_get sets place ≡ Some set
-  pub same : set.manifest.desc.which ≡ which
-
 same_or_not : (a b : DataId) → (a ≡ b) ⊎ (a ≢ b)
 same_or_not a b = pick (true_or_false (same_id a b)) where
   pick : (same_id a b ≡ true) ⊎ (same_id a b ≡ false) → (a ≡ b) ⊎ (a ≢ b)
   pick (inl e) = inl (same_id_is a b e)
   pick (inr e) = inr (λ same. absurd (cc (ap (λ (x : DataId). same_id x b) same, Rattle.ckpt_model.proofs.SameLemmas.id-same b, e)))
-
-pub in_list : (sets : List Cached) (which : DataId) → IsInList sets which ⊎ ((i : ℕ) (x : Cached) → slice_get sets i ≡ Some x → x.manifest.desc.which ≡ which → ⊥)
-in_list [] which = inr (λ i x at same. absurd (cc at))
-in_list (y ∷ ys) which = pick (same_or_not y.manifest.desc.which which) (in_list ys which) where
-  pick : (y.manifest.desc.which ≡ which) ⊎ (y.manifest.desc.which ≢ which) → IsInList ys which ⊎ ((i : ℕ) (x : Cached) → slice_get ys i ≡ Some x → x.manifest.desc.which ≡ which → ⊥) → IsInList (y ∷ ys) which ⊎ ((i : ℕ) (x : Cached) → slice_get (y ∷ ys) i ≡ Some x → x.manifest.desc.which ≡ which → ⊥)
-  pick (inl same) _ = inl (record { place = 0; set = y; at = refl; same = same })
-  pick (inr other) (inl l) = inl (record { place = suc l.place; set = l.set; at = l.at; same = l.same })
-  pick (inr other) (inr none) = inr no_one where
-    no_one : (i : ℕ) (x : Cached) → slice_get (y ∷ ys) i ≡ Some x → x.manifest.desc.which ≡ which → ⊥
-    no_one zero x at same = other (ap (λ (z : Cached). z.manifest.desc.which) (some_same y x at) ∙ same)
-    no_one (suc i) x at same = none i x at same
 
 -- the one manifest, where there is one with this identity
 pub in_option : (o : Option Manifest) (which : DataId) → ((m : Manifest) × (o ≡ Some m) × (m.desc.which ≡ which)) ⊎ ((m : Manifest) → o ≡ Some m → m.desc.which ≡ which → ⊥)
@@ -105,9 +87,10 @@ pub record CacheFacts (shape : Shape) (run : ℕ) (places : List ℕ) (states : 
   pub quiet : (p : ℕ) (q : List ℕ) → p < 32 → ((m : Manifest) → hand ≡ Some m → IsOfDataset m.desc.which q → ⊥) → IsAtRest ((states p).file q)
   pub apart : (i : ℕ) (x : Cached) → slice_get sets i ≡ Some x → is_being_sealed x.mark ≡ false → (m : Manifest) → hand ≡ Some m → x.manifest.desc.which ≢ m.desc.which
   pub sealing : (i : ℕ) (x : Cached) → slice_get sets i ≡ Some x → is_being_sealed x.mark ≡ true → LeavesWhole places shape.ranks states x.manifest
-  pub opening : (m : Manifest) → opened ≡ Some m → (node p : ℕ) → slice_get places node ≡ Some p → Leaves ((states p).file (record_name m.desc.which node)) (λ o. IsOpen o 1 → IsOfWhole places shape.ranks states m.desc.which node p)
+  pub opening : (m : Manifest) → opened ≡ Some m → (node p : ℕ) → slice_get places node ≡ Some p → Leaves ((states p).file (record_name m.desc.which node)) (λ o. IsOpen o 1 → ⊥)
   pub known : (m : Manifest) → hand ≡ Some m → (opened ≡ Some m → ⊥) → (IsAmong sets m → ⊥) → ⊥
   pub away : (m : Manifest) → hand ≡ Some m → (p node : ℕ) → p < 32 → IsPlace m.desc.which node → (slice_get places node ≡ Some p → ⊥) → Leaves ((states p).file (record_name m.desc.which node)) (λ o. IsOpen o 1 → ⊥)
+  pub sealing_away : (i : ℕ) (x : Cached) → slice_get sets i ≡ Some x → is_being_sealed x.mark ≡ true → (p node : ℕ) → p < 32 → IsPlace x.manifest.desc.which node → (slice_get places node ≡ Some p → ⊥) → IsAtRest ((states p).file (record_name x.manifest.desc.which node))
 
 not_doubtful : (m : Mark) → is_doubtful m ≡ false → is_being_sealed m ≡ false
 not_doubtful mark.Mending e = refl
@@ -155,38 +138,32 @@ module _ (shape : Shape) (run : ℕ) (places : List ℕ) (states : ℕ → Devic
   not_left : (f : File) → IsAtRest f → f.now ≡ None → (o : Option (List ℕ)) → MayLeave f o → IsOpen o 1 → ⊥
   not_left f rest none o may opens = absurd (omega (arith, opens, ap (λ (x : Option (List ℕ)). byte_at x 1) (rest_leaves f o rest may ∙ none)))
 
-  -- which dataset a record is of
-  others_left : (p : ℕ) (which : DataId) (node : ℕ) → p < 32 → IsPlace which node → Leaves ((states p).file (record_name which node)) (λ o. IsOpen o 1 → IsOfWhole places shape.ranks states which node p)
-  others_left p which node low at = pick (home_or_not places node p) (in_list sets which) (in_option opened which) where
-    unknown : ((m : Manifest) → (opened ≡ Some m) ⊎ IsAmong sets m → m.desc.which ≡ which → slice_get places node ≡ Some p → ⊥) → ((m : Manifest) → hand ≡ Some m → m.desc.which ≡ which → slice_get places node ≡ Some p → ⊥)
-        → Leaves ((states p).file (record_name which node)) (λ o. IsOpen o 1 → IsOfWhole places shape.ranks states which node p)
-    unknown foreign off = λ o may opens. absurd (by_hand (in_option hand which) o may opens) where
-      by_hand : ((m : Manifest) × (hand ≡ Some m) × (m.desc.which ≡ which)) ⊎ ((m : Manifest) → hand ≡ Some m → m.desc.which ≡ which → ⊥) → (o : Option (List ℕ)) → MayLeave ((states p).file (record_name which node)) o → IsOpen o 1 → ⊥
-      by_hand (inl h) o may opens = f.away h.0 h.1 p node low (subst (λ (w : DataId). IsPlace w node) (sym h.2) at) (off h.0 h.1 h.2) o (subst (λ (w : DataId). MayLeave ((states p).file (record_name w node)) o) (sym h.2) may) opens
-      by_hand (inr none) o may opens = not_left ((states p).file (record_name which node))
-          (f.quiet p (record_name which node) low (calm_name which node (record_name which node) at (inl refl) (λ m is same. none m is (sym same))))
-          (f.others p which node low at foreign) o may opens
+  -- a record of a dataset that isn't in cache
+  others_left : (p : ℕ) (which : DataId) (node : ℕ) → p < 32 → IsPlace which node → IsNoneOf sets which → Leaves ((states p).file (record_name which node)) (λ o. IsOpen o 1 → ⊥)
+  others_left p which node low at none = pick (home_or_not places node p) (in_option opened which) (in_option hand which) where
+    resting : ((m : Manifest) → hand ≡ Some m → m.desc.which ≡ which → ⊥) → ((m : Manifest) → (opened ≡ Some m) ⊎ IsAmong sets m → m.desc.which ≡ which → slice_get places node ≡ Some p → ⊥) → Leaves ((states p).file (record_name which node)) (λ o. IsOpen o 1 → ⊥)
+    resting free foreign = not_left ((states p).file (record_name which node)) (f.quiet p (record_name which node) low (calm_name which node (record_name which node) at (inl refl) (λ m is same. free m is (sym same)))) (f.others p which node low at foreign)
 
-    pick : (slice_get places node ≡ Some p) ⊎ (slice_get places node ≡ Some p → ⊥) → IsInList sets which ⊎ ((i : ℕ) (x : Cached) → slice_get sets i ≡ Some x → x.manifest.desc.which ≡ which → ⊥)
-        → ((m : Manifest) × (opened ≡ Some m) × (m.desc.which ≡ which)) ⊎ ((m : Manifest) → opened ≡ Some m → m.desc.which ≡ which → ⊥)
-        → Leaves ((states p).file (record_name which node)) (λ o. IsOpen o 1 → IsOfWhole places shape.ranks states which node p)
-    pick (inr off) _ _ = unknown (λ m known same home. off home) (λ m is same home. off home)
-    pick (inl home) (inl l) _ = λ o may opens. record { set = l.set.manifest; which_is = l.same; home = home; whole = each_whole l.place l.set l.at }
-    pick (inl home) (inr none) (inl h) = λ o may opens.
-        subst (λ (w : DataId). IsOfWhole places shape.ranks states w node p) h.2 (f.opening h.0 h.1 node p home o (subst (λ (w : DataId). MayLeave ((states p).file (record_name w node)) o) (sym h.2) may) opens)
-    pick (inl home) (inr none) (inr no_open) = λ o may opens. absurd (by_rest (in_option hand which) o may opens) where
+    not_among : (m : Manifest) → IsAmong sets m → m.desc.which ≡ which → ⊥
+    not_among m among same = none among.0 among.1 among.2 (ap (λ (z : Manifest). z.desc.which) among.3 ∙ same)
+
+    pick : (slice_get places node ≡ Some p) ⊎ (slice_get places node ≡ Some p → ⊥) → ((m : Manifest) × (opened ≡ Some m) × (m.desc.which ≡ which)) ⊎ ((m : Manifest) → opened ≡ Some m → m.desc.which ≡ which → ⊥)
+        → ((m : Manifest) × (hand ≡ Some m) × (m.desc.which ≡ which)) ⊎ ((m : Manifest) → hand ≡ Some m → m.desc.which ≡ which → ⊥) → Leaves ((states p).file (record_name which node)) (λ o. IsOpen o 1 → ⊥)
+    pick (inl home) (inl h) _ = λ o may. f.opening h.0 h.1 node p home o (subst (λ (w : DataId). MayLeave ((states p).file (record_name w node)) o) (sym h.2) may)
+    pick (inl home) (inr closed) (inl h) = λ o may. absurd (f.known h.0 h.1 (λ e. closed h.0 e h.2) (λ among. not_among h.0 among h.2))
+    pick (inl home) (inr closed) (inr free) = resting free foreign where
       foreign : (m : Manifest) → (opened ≡ Some m) ⊎ IsAmong sets m → m.desc.which ≡ which → slice_get places node ≡ Some p → ⊥
-      foreign m (inl is) same h = no_open m is same
-      foreign m (inr among) same h = none among.0 among.1 among.2 (ap (λ (z : Manifest). z.desc.which) among.3 ∙ same)
+      foreign m (inl is) same h = closed m is same
+      foreign m (inr among) same h = not_among m among same
+    pick (inr off) _ (inl h) = λ o may. f.away h.0 h.1 p node low (subst (λ (w : DataId). IsPlace w node) (sym h.2) at) off o (subst (λ (w : DataId). MayLeave ((states p).file (record_name w node)) o) (sym h.2) may)
+    pick (inr off) _ (inr free) = resting free (λ m known same home. off home)
 
-      by_rest : ((m : Manifest) × (hand ≡ Some m) × (m.desc.which ≡ which)) ⊎ ((m : Manifest) → hand ≡ Some m → m.desc.which ≡ which → ⊥) → (o : Option (List ℕ)) → MayLeave ((states p).file (record_name which node)) o → IsOpen o 1 → ⊥
-      by_rest (inl h) o may opens = in_hand_known h.0 h.1 h.2
-        where
-          in_hand_known : (m : Manifest) → hand ≡ Some m → m.desc.which ≡ which → ⊥
-          in_hand_known m is same = f.known m is (λ e. no_open m e same) (λ among. none among.0 among.1 among.2 (ap (λ (z : Manifest). z.desc.which) among.3 ∙ same))
-      by_rest (inr no_hand) o may opens = not_left ((states p).file (record_name which node))
-          (f.quiet p (record_name which node) low (calm_name which node (record_name which node) at (inl refl) (λ m is same. no_hand m is (sym same))))
-          (f.others p which node low at foreign) o may opens
+  -- a record of a dataset in cache, but not at home
+  away_left : (i : ℕ) (x : Cached) → slice_get sets i ≡ Some x → (p node : ℕ) → p < 32 → IsPlace x.manifest.desc.which node → (slice_get places node ≡ Some p → ⊥) → Leaves ((states p).file (record_name x.manifest.desc.which node)) (λ o. o ≡ None)
+  away_left i x at p node low place off o may = rest_leaves ((states p).file (record_name x.manifest.desc.which node)) o (pick (true_or_false (is_being_sealed x.mark))) may ∙ f.others p x.manifest.desc.which node low place (λ m known same home. off home) where
+    pick : (is_being_sealed x.mark ≡ true) ⊎ (is_being_sealed x.mark ≡ false) → IsAtRest ((states p).file (record_name x.manifest.desc.which node))
+    pick (inl sealed) = f.sealing_away i x at sealed p node low place off
+    pick (inr calm) = f.quiet p (record_name x.manifest.desc.which node) low (calm_name x.manifest.desc.which node (record_name x.manifest.desc.which node) place (inl refl) (f.apart i x at calm))
 
   pub cache_left : LeavesCache places shape.ranks states sets
   cache_left = record {
@@ -195,6 +172,7 @@ module _ (shape : Shape) (run : ℕ) (places : List ℕ) (states : ℕ → Devic
         let calm = not_doubtful x.mark sure in
         let is = f.records i x at calm node p home in
         ap (λ (b : Option (List ℕ)). byte_at b 1) (rest_leaves ((states p).file (record_name x.manifest.desc.which node)) o (record_rest i x at calm node p home) may) ∙ gate_opens (((states p).file (record_name x.manifest.desc.which node)).now) 1 is.sealed_is;
+    away = away_left;
     others = others_left;
   }
 
@@ -228,8 +206,7 @@ module _ (s : Setup) (places : List ℕ) (states after : ℕ → DeviceState) (m
     cache = record {
       whole = λ i x at. whole_on x.manifest (l.cache.whole i x at);
       sealed = λ i x at sure node p home. synced_open ((states p).file (record_name x.manifest.desc.which node)) ((after p).file (record_name x.manifest.desc.which node)) 1 (partly p (record_name x.manifest.desc.which node) (home_low node p home)) (l.cache.sealed i x at sure node p home);
-      others = λ p which node lw at o may opens.
-          let is = l.cache.others p which node lw at o ((partly p (record_name which node) lw).outcomes o may) opens in
-          record { set = is.set; which_is = is.which_is; home = is.home; whole = whole_on is.set is.whole };
+      away = λ i x at p node lw place off o may. l.cache.away i x at p node lw place off o ((partly p (record_name x.manifest.desc.which node) lw).outcomes o may);
+      others = λ p which node lw at none o may. l.cache.others p which node lw at none o ((partly p (record_name which node) lw).outcomes o may);
     };
   }

@@ -18,7 +18,7 @@ use Rattle.site_core.specs.declared.core_state.Core.{Core}
 use Rattle.site_core.specs.declared.core_state.Work.{Work}
 use Rattle.site_core.specs.Calls.{Synced, KeptAlike}
 use Rattle.site_core.specs.Stored.{cells_of, FilesHold, IsKnown}
-use Rattle.site_core.specs.Left.{LeavesSaved, NoneSealed, is_sealing_work}
+use Rattle.site_core.specs.Left.{LeavesSaved, NoneSealed}
 use Rattle.site_core.proofs.RefusedCalls.{same_partly}
 use Rattle.site_core.proofs.Losses.{is_or_not}
 
@@ -92,10 +92,10 @@ home_or_not places node p = pick (slice_get places node) where
 -- ## No record is sealed
 
 -- while the records of the open dataset are written, none of it is left sealed
-pub none_sealed : (w : Work) (n : ℕ) (c : Core) (m : Manifest) (states : ℕ → DeviceState) → is_sealing_work w ≡ false → FilesHold c (cells_of states) → LeavesSaved w n c.places m states → NoneSealed m.desc.which states
-none_sealed w n c m states early files leaves p node low at = pick (home_or_not c.places node p) where
+pub none_sealed : (w : Work) (n : ℕ) (c : Core) (m : Manifest) (states : ℕ → DeviceState) → c.opened ≡ Some m → FilesHold c (cells_of states) → LeavesSaved w n c.places c.opened m states → NoneSealed m.desc.which states
+none_sealed w n c m states opened files leaves p node low at = pick (home_or_not c.places node p) where
   pick : (slice_get c.places node ≡ Some p) ⊎ (slice_get c.places node ≡ Some p → ⊥) → StaysShut ((states p).file (record_name m.desc.which node)) 1
-  pick (inl home) = leaves.unsealed early node p home
+  pick (inl home) = leaves.unsealed opened node p home
   pick (inr off) =
       let none = files.others p m.desc.which node low at (λ x known same home. off home) in
       rest_shut ((states p).file (record_name m.desc.which node)) 1 (leaves.elsewhere p node low at off) (none_shut (cells_of states p (record_name m.desc.which node)) 1 none)

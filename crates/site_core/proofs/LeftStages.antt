@@ -1,6 +1,6 @@
 -- What a stop leaves of the datasets in cache, at each stage of a run.
 use Rattle.std.proofs.Common.{◌≡◌, ◌≢◌, ◌⊎◌, inl, inr, ℕ, zero, suc, ◌/◌, ◌<◌, ◌≤◌, ◌^◌, Bool, true, false, List, [], ◌∷◌, map, Option, Some, None, refl, sym, ap, ◌∙◌, subst, slice_get, arith}
-use Rattle.std.specs.Prelude.{option_map, slice_index}
+use Rattle.std.specs.Prelude.{IsTrue, fold, option_map, slice_index}
 use Rattle.std.specs.List.{list_any}
 use Rattle.scr_base.specs.Sets.{numbers_below}
 use Rattle.scr_base.specs.declared.content.Step.{Step}
@@ -17,7 +17,12 @@ use Rattle.filemap.specs.declared.rows.FileRow.{FileRow}
 use Rattle.member_store.specs.Names.{record_name, IsPlace, IsNameOf}
 use Rattle.member_store.specs.Members.{member_body}
 use Rattle.ckpt_model.specs.declared.event.Event.{Event}
-use Rattle.ckpt_model.specs.Machine.{Machine, Kept}
+use Rattle.ckpt_model.specs.declared.event.StopCause.{StopCause}
+use Rattle.ckpt_model.specs.declared.event.StopCause.TheVariants as cause
+use Rattle.ckpt_model.specs.declared.event.Event.TheVariants as event
+use Rattle.ckpt_model.specs.Moves.{after}
+use Rattle.ckpt_model.specs.Stops.{may_make}
+use Rattle.ckpt_model.specs.Machine.{Machine, Setup, Kept}
 use Rattle.site_core.specs.declared.cache.Cached.{Cached}
 use Rattle.site_core.specs.declared.cache.Manifest.{Manifest}
 use Rattle.site_core.specs.declared.cache.Mark.TheVariants as mark
@@ -31,7 +36,7 @@ use Rattle.site_core.specs.Choosing.{is_being_sealed, seals}
 use Rattle.site_core.specs.Shown.{Contents, running, setup_of, kept_of}
 use Rattle.site_core.specs.Waiting.{is_over}
 use Rattle.site_core.specs.Stored.{Cells, cells_of, contents_of, contents_in, file_name, place_of_rank, FilesStand, FileStands, RecordsStand, NoOtherRecords, IsAmong, IsKnown, IsWell, IsOfSite, FilesHold, RecordIs}
-use Rattle.site_core.specs.Left.{LeavesSaved, LeavesWhole, IsOfWhole, LeavesCache, LeavesKept, is_sealing_work, is_filling_at}
+use Rattle.site_core.specs.Left.{LeavesSaved, LeavesWhole, LeavesCache, LeavesKept, is_sealing_work, is_filling_at}
 use Rattle.site_core.specs.Holds.{IsOneOf, settled_set, HoldsAt, IsUp, IsSaved, IsSaving, IsPending, IsFileOf, IsOfDataset, IsLeavingAt, WorkIs, NoRecordYet, is_whole_at, is_sealed_at}
 use Rattle.site_core.proofs.Frames.{is_place, file_no_record, div_small, place_named}
 use Rattle.site_core.proofs.Puts.{few_nodes, few_rows, row_rank, row_named, node_below, place_is, kept_other}
@@ -48,6 +53,24 @@ use Rattle.site_core.proofs.LeftCaches.{CacheFacts, cache_left, kept_on, low_pla
 pub record IsLeft (c : Core) (states : ℕ → DeviceState) (m : Machine) : Type 0 where
   pub places : c.places ≡ numbers_below c.shape.nodes
   pub leaves : LeavesKept (setup_of c) c.places states m
+
+-- What is known of the datasets in cache where this state is stopped so: perhaps with a change that a refused call made.
+pub record Remains (c : Core) (states : ℕ → DeviceState) (m : Machine) (why : StopCause) : Type 0 where
+  pub made : List Event
+  pub may : IsTrue (may_make (setup_of c) m why made)
+  pub leaves : LeavesKept (setup_of c) c.places states (fold (after (setup_of c)) m made)
+
+nothing_made : (s : Setup) (m : Machine) (why : StopCause) → IsTrue (may_make s m why [])
+nothing_made s m (cause.Device node count) = refl
+nothing_made s m (cause.Full node used capacity) = refl
+nothing_made s m cause.Script = refl
+nothing_made s m cause.Ended = refl
+nothing_made s m cause.Runs = refl
+nothing_made s m cause.Command = refl
+
+-- with none
+pub remains : (c : Core) (states : ℕ → DeviceState) (m : Machine) (why : StopCause) → IsLeft c states m → Remains c states m why
+remains c states m why l = record { made = []; may = nothing_made (setup_of c) m why; leaves = l.leaves }
 
 some_same : {X : Type 0} (x y : X) → Some x ≡ Some y → x ≡ y
 some_same x y e = cc
@@ -88,6 +111,7 @@ early_left shape run places states sets are of_site files records others quiet =
   opening = λ m e. absurd (cc e);
   known = λ m e. absurd (cc e);
   away = λ m e. absurd (cc e);
+  sealing_away = λ i x at sealed. let s = set_at sets i x at in absurd (cc (ap (λ (y : Cached). is_being_sealed y.mark) s.is, sealed));
 })
 
 -- ## A run that is up
@@ -124,9 +148,10 @@ module _ (c : Core) (states : ℕ → DeviceState) (well : IsWell c) (files : Fi
     quiet = λ p q low away. quiet p q (omega (arith, low)) (λ lt pending. away pending.0 pending.1 (file_is_of c pending.0 q pending.2));
     apart = λ i x at still m is. kept_other c m x.manifest well is (i, x, at, refl);
     sealing = λ i x at sealed. absurd (cc (none-passes seals c.kept i x calm at, sealed));
-    opening = λ m is node p home o may opens. absurd (unsealed m is p node (home_low c node p well.places home) (home_place c m node p well.places home) o may opens);
+    opening = λ m is node p home. unsealed m is p node (home_low c node p well.places home) (home_place c m node p well.places home);
     known = λ m is no_open no_kept. no_open is;
     away = λ m is p node low at off. unsealed m is p node low at;
+    sealing_away = λ i x at sealed. absurd (cc (none-passes seals c.kept i x calm at, sealed));
   })
 
 -- ## A dataset that is being saved
@@ -140,7 +165,7 @@ pub record IsLoose (w : Work) (n : ℕ) (c : Core) (m : Manifest) (states : ℕ 
   pub open_yet : is_sealing_work w ≡ false → c.opened ≡ Some m
   pub apart : (i : ℕ) (x : Cached) → slice_get c.kept i ≡ Some x → is_being_sealed x.mark ≡ false → x.manifest.desc.which ≢ m.desc.which
   pub one : (i : ℕ) (x : Cached) → slice_get c.kept i ≡ Some x → is_being_sealed x.mark ≡ true → x.manifest ≡ m
-  pub leaves : LeavesSaved w n c.places m states
+  pub leaves : LeavesSaved w n c.places c.opened m states
 
 pub loose_of : (first : Machine) (c : Core) (programs : List (List Step)) (states : ℕ → DeviceState) (events : List Event) (w : Work) (n : ℕ) (m : Manifest) → IsSaving first c programs states events w n m → IsLoose w n c m states
 loose_of first c programs states events w n m h = record { well = h.well; files = h.files; quiet = h.quiet; saved = h.saved; open_yet = h.saves.open_yet; apart = h.saves.apart; one = h.saves.one; leaves = h.saves.leaves }
@@ -181,7 +206,7 @@ module _ (w : Work) (n : ℕ) (c : Core) (m : Manifest) (states : ℕ → Device
         let at = place_is c.shape c.places (rank / c.shape.ranks) h.well.places node in
         let home : slice_get c.places (rank / c.shape.ranks) ≡ Some (place_of_rank c.places c.shape.ranks rank) = home_there (rank / c.shape.ranks) node ∙ ap Some (sym at) in
         let rest = h.leaves.parts (rank / c.shape.ranks) (place_of_rank c.places c.shape.ranks rank) (file_name m.desc.which c.shape.ranks rank j) home (filled w n (rank / c.shape.ranks) late)
-            (λ e. file_no_record m.desc.which m.desc.which c.shape.ranks rank j (rank / c.shape.ranks) name (place_named m.desc.which rank j c.shape.ranks name) e) in
+        (λ e. file_no_record m.desc.which m.desc.which c.shape.ranks rank j (rank / c.shape.ranks) name (place_named m.desc.which rank j c.shape.ranks name) e) in
         let same = rest_leaves ((states (place_of_rank c.places c.shape.ranks rank)).file (file_name m.desc.which c.shape.ranks rank j)) o rest may in
         (subst (λ (b : Option (List ℕ)). FileStands b row) (sym same) (h.files.files m known rank j row there), same);
   } where
@@ -198,9 +223,10 @@ module _ (w : Work) (n : ℕ) (c : Core) (m : Manifest) (states : ℕ → Device
     quiet = λ p q low away. h.quiet p q (omega (arith, low)) (λ lt pending. of_hand q (away m refl) pending.0 (is_it pending.0 pending.1) pending.2);
     apart = λ i x at still y is. λ same. h.apart i x at still (same ∙ ap (λ (z : Manifest). z.desc.which) (sym (some_same m y is)));
     sealing = λ i x at sealed. subst (λ (z : Manifest). LeavesWhole c.places c.shape.ranks states z) (sym (h.one i x at sealed)) (saved_whole (late_of i x at sealed (true_or_false (is_sealing_work w))));
-    opening = λ y is node p home o may opens. at_open y is node p home (true_or_false (is_sealing_work w)) o may opens;
+    opening = λ y is node p home o may. (h.leaves.unsealed (is ∙ ap Some (opened_it y is)) node p home).shut o (subst (λ (z : Manifest). MayLeave ((states p).file (record_name z.desc.which node)) o) (opened_it y is) may);
     known = λ y is no_open no_kept. pick_known (some_same m y is) no_open no_kept known;
     away = λ y is p node low at off. subst (λ (z : Manifest). IsPlace z.desc.which node → (o : Option (List ℕ)) → MayLeave ((states p).file (record_name z.desc.which node)) o → IsOpen o 1 → ⊥) (some_same m y is) (λ place. off_home p node low place off) at;
+    sealing_away = λ i x at sealed p node low place off. subst (λ (z : Manifest). IsPlace z.desc.which node → IsAtRest ((states p).file (record_name z.desc.which node))) (sym (h.one i x at sealed)) (λ at. h.leaves.elsewhere p node low at off) place;
   }) where
     of_hand : (q : List ℕ) → (IsOfDataset m.desc.which q → ⊥) → (x : Manifest) → x ≡ m → IsFileOf c x q ⊎ ((node : ℕ) × (node < 2 ^ 8) × (q ≡ record_name x.desc.which node)) → ⊥
     of_hand q away x is (inl file) = away (subst (λ (z : Manifest). IsOfDataset z.desc.which q) is (file_is_of c x q file))
@@ -212,10 +238,6 @@ module _ (w : Work) (n : ℕ) (c : Core) (m : Manifest) (states : ℕ → Device
 
     opened_it : (y : Manifest) → c.opened ≡ Some y → y ≡ m
     opened_it y is = is_it y (inl is)
-
-    at_open : (y : Manifest) → c.opened ≡ Some y → (node p : ℕ) → slice_get c.places node ≡ Some p → (is_sealing_work w ≡ true) ⊎ (is_sealing_work w ≡ false) → (o : Option (List ℕ)) → MayLeave ((states p).file (record_name y.desc.which node)) o → IsOpen o 1 → IsOfWhole c.places c.shape.ranks states y.desc.which node p
-    at_open y is node p home (inl late) o may opens = record { set = m; which_is = ap (λ (z : Manifest). z.desc.which) (sym (opened_it y is)); home = home; whole = saved_whole late }
-    at_open y is node p home (inr early) o may opens = absurd ((h.leaves.unsealed early node p home).shut o (subst (λ (z : Manifest). MayLeave ((states p).file (record_name z.desc.which node)) o) (opened_it y is) may) opens)
 
     pick_known : {y : Manifest} → m ≡ y → (c.opened ≡ Some y → ⊥) → (IsAmong c.kept y → ⊥) → IsKnown c m → ⊥
     pick_known same no_open no_kept (inl is) = no_open (is ∙ ap Some same)
@@ -244,9 +266,10 @@ leaving_left gone settled c states m h = record {
       quiet = λ p q low away. h.quiet p q (omega (arith, low)) (λ lt un of. away h.set refl of);
       apart = λ i x at still y is. λ same. kept_other c h.set x.manifest h.well h.opened (i, x, at, refl) (same ∙ ap (λ (z : Manifest). z.desc.which) (sym (some_same h.set y is)));
       sealing = λ i x at sealed. absurd (cc (none-passes seals c.kept i x h.sealed at, sealed));
-      opening = λ y is node p home o may opens. absurd (shut_of y (some_same h.set y (sym h.opened ∙ is)) p node (home_low c node p h.well.places home) (home_place c y node p h.well.places home) o may opens);
+      opening = λ y is node p home. shut_of y (some_same h.set y (sym h.opened ∙ is)) p node (home_low c node p h.well.places home) (home_place c y node p h.well.places home);
       known = λ y is no_open no_kept. no_open (h.opened ∙ is);
       away = λ y is p node low at off. shut_of y (some_same h.set y is) p node low at;
+      sealing_away = λ i x at sealed. absurd (cc (none-passes seals c.kept i x h.sealed at, sealed));
     });
   };
 } where
@@ -350,7 +373,7 @@ module _ (first : Machine) (c : Core) (programs : List (List Step)) (states afte
   same_cells : cells_of after ≡ cells_of states
   same_cells = cells_alike place states after done.here.refused.alike done.others
 
-  gate_loose : LeavesRecord w ((after place).file (record_name m.desc.which n)) (member_body m.desc n m.files) → IsLoose w n c m after
+  gate_loose : LeavesRecord w c.opened m ((after place).file (record_name m.desc.which n)) (member_body m.desc n m.files) → IsLoose w n c m after
   gate_loose left = record {
     well = h.well;
     files = subst (λ (cells : Cells). FilesHold c cells) (sym same_cells) h.files;
@@ -363,7 +386,7 @@ module _ (first : Machine) (c : Core) (programs : List (List Step)) (states afte
     leaves = put_leaves w w n c m states after h.well place home h.saves.leaves (record { here = done.here.only; others = done.others }) (λ i e. e) refl left;
   }
 
-  pub gate_left : LeavesRecord w ((after place).file (record_name m.desc.which n)) (member_body m.desc n m.files) → IsLeft c after (running (contents_of (cells_of states) c) c)
+  pub gate_left : LeavesRecord w c.opened m ((after place).file (record_name m.desc.which n)) (member_body m.desc n m.files) → IsLeft c after (running (contents_of (cells_of states) c) c)
   gate_left left = subst (λ (cells : Cells). IsLeft c after (running (contents_of cells c) c)) same_cells (loose_left w n c m after (gate_loose left))
 
 -- of a gate `whole`
@@ -373,19 +396,19 @@ whole_refused first c programs states after events n m h place home done =
     let f = (states place).file (record_name m.desc.which n) in
     let was : RecordIs f.now m n (is_whole_at work.Whole n n) false = h.saves.records n place home in
     gate_left first c programs states after events work.Whole n m h place 0 home done (record {
-      unsealed = λ early. torn_shut 0 1 f ((after place).file (record_name m.desc.which n)) (λ e. absurd (omega (arith, e)))
-          (has_byte f (member_body m.desc n m.files) 0 (omega arith) (h.saves.quiet n place (record_name m.desc.which n) home refl) was.body) done.here.torn (h.saves.leaves.unsealed refl n place home);
+      unsealed = λ is. torn_shut 0 1 f ((after place).file (record_name m.desc.which n)) (λ e. absurd (omega (arith, e)))
+          (has_byte f (member_body m.desc n m.files) 0 (omega arith) (h.saves.quiet n place (record_name m.desc.which n) home refl) was.body) done.here.torn (h.saves.leaves.unsealed is n place home);
       whole = λ late. absurd (cc late);
     })
 
 -- of a gate `sealed`
-pub sealed_refused : (first : Machine) (c : Core) (programs : List (List Step)) (states after : ℕ → DeviceState) (events : List Event) (n : ℕ) (m : Manifest) → IsSaving first c programs states events work.Sealed n m → (place : ℕ) → slice_get c.places n ≡ Some place
+pub sealed_refused : (first : Machine) (c : Core) (programs : List (List Step)) (states after : ℕ → DeviceState) (events : List Event) (n : ℕ) (m : Manifest) → c.opened ≡ None → IsSaving first c programs states events work.Sealed n m → (place : ℕ) → slice_get c.places n ≡ Some place
     → OnlyAt place (Unturned (record_name m.desc.which n) 1) states after → IsLeft c after (running (contents_of (cells_of states) c) c)
-sealed_refused first c programs states after events n m h place home done =
+sealed_refused first c programs states after events n m closed h place home done =
     let f = (states place).file (record_name m.desc.which n) in
     let was : RecordIs f.now m n true (is_sealed_at work.Sealed n n) = h.saves.records n place home in
     gate_left first c programs states after events work.Sealed n m h place 1 home done (record {
-      unsealed = λ early. absurd (cc early);
+      unsealed = λ is. absurd (cc (closed, is));
       whole = λ late. turned_whole f ((after place).file (record_name m.desc.which n)) (member_body m.desc n m.files)
           (has_byte f (member_body m.desc n m.files) 1 (omega arith) (h.saves.quiet n place (record_name m.desc.which n) home refl) was.body) done.here.torn (h.saves.leaves.whole refl n place home);
     })

@@ -220,7 +220,7 @@ module _ (first : Machine) (c : Core) (programs : List (List Step)) (states afte
   carried_write h done =
       carried first c programs states after events work.Record n m refusal opened fault h (cells_alike place states after done.here.refused.alike done.others)
       (λ p q other rest. refused_rest place states after (record_name m.desc.which n) (record { here = done.here.refused; others = done.others }) p q (λ is. other (is ∙ (place_of_node c n place h.well home).0)) rest)
-      (λ p node low at. pick p node at (none_sealed work.Record n c m states refl h.files h.saves.leaves p node low at) (cases_eq p place) (cases_eq node n)) where
+      (λ p node low at. pick p node at (none_sealed work.Record n c m states opened h.files h.saves.leaves p node low at) (cases_eq p place) (cases_eq node n)) where
         name : ℕ → List ℕ
         name node = record_name m.desc.which node
 
@@ -241,7 +241,7 @@ module _ (first : Machine) (c : Core) (programs : List (List Step)) (states afte
   pub carried_sync : IsSaving first c programs states events work.RecordSync n m → OnlyAt place KeptAlike states after → Leads first (dropping_core c m.desc.which (Some refusal)) programs after events
   carried_sync h done =
       carried first c programs states after events work.RecordSync n m refusal opened fault h (cells_alike place states after done.here.alike done.others) (λ p q other rest. alike_rest place states after done p q rest)
-      (none_sealed_on m.desc.which states after (alike_partly place states after done) (none_sealed work.RecordSync n c m states refl h.files h.saves.leaves))
+      (none_sealed_on m.desc.which states after (alike_partly place states after done) (none_sealed work.RecordSync n c m states opened h.files h.saves.leaves))
 
 -- ## A file goes
 

@@ -95,7 +95,7 @@ begins_saving first c programs states events m at leads opened round some =
         leaves = record {
           elsewhere = λ p node lt at off. quiet p (record_name m.desc.which node) (omega (arith, lt)) (λ on pending. no_record_file node at pending);
           parts = λ node p q home calm other. absurd (cc (all_pending node, calm));
-          unsealed = λ early node p home. rest_shut ((states p).file (record_name m.desc.which node)) 1
+          unsealed = λ is node p home. rest_shut ((states p).file (record_name m.desc.which node)) 1
               (quiet p (record_name m.desc.which node) (omega (arith, low h.well node p home)) (λ on pending. no_file h.well node p home pending))
               (none_shut (cells_of states p (record_name m.desc.which node)) 1 (none m opened p node (low h.well node p home) (is_place m.desc node (node_small c node p h.well home))));
           whole = λ late. absurd (cc late);
@@ -198,7 +198,7 @@ seal_told first c programs states events events' w n m h late opened more =
         records = h.saves.records;
         clean = h.saves.clean;
         quiet = h.saves.quiet;
-        leaves = h.saves.leaves;
+        leaves = record { elsewhere = h.saves.leaves.elsewhere; parts = h.saves.leaves.parts; unsealed = λ e. absurd (cc e); whole = h.saves.leaves.whole };
       };
       mended = any-push mends c.kept x h.mended refl;
     } where

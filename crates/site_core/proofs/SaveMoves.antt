@@ -116,7 +116,7 @@ module _ (first : Machine) (c : Core) (programs : List (List Step)) (states afte
       (subst (λ (b : Bool). RecordAt b (cells_of after place (record_name m.desc.which n)) m n false false) (sym (le-self n)) is)
       (le-self n) (le-self n)
       (record {
-        unsealed = λ early. body_shut ((after place).file (record_name m.desc.which n)) 1 (omega arith) (done.here.shut (no_file_shut ((states place).file (record_name m.desc.which n)) was clean));
+        unsealed = λ is. body_shut ((after place).file (record_name m.desc.which n)) 1 (omega arith) (done.here.shut (no_file_shut ((states place).file (record_name m.desc.which n)) was clean));
         whole = λ late. absurd (cc late);
       })
 
@@ -143,14 +143,14 @@ module _ (first : Machine) (c : Core) (programs : List (List Step)) (states afte
       (subst (λ (b : Bool). RecordIs (cells_of after place (record_name m.desc.which n)) m n b false) (sym (le-self n)) (subst (λ (o : Option (List ℕ)). RecordIs o m n true false) (sym put) is))
       refl (eq-self n)
       (record {
-        unsealed = λ early. torn_shut 0 1 ((states place).file (record_name m.desc.which n)) ((after place).file (record_name m.desc.which n)) (λ e. absurd (omega (arith, e)))
-            (has_byte ((states place).file (record_name m.desc.which n)) (member_body m.desc n m.files) 0 (omega arith) (h.saves.quiet n place (record_name m.desc.which n) home refl) was.body) done.here.torn (h.saves.leaves.unsealed refl n place home);
+        unsealed = λ is. torn_shut 0 1 ((states place).file (record_name m.desc.which n)) ((after place).file (record_name m.desc.which n)) (λ e. absurd (omega (arith, e)))
+            (has_byte ((states place).file (record_name m.desc.which n)) (member_body m.desc n m.files) 0 (omega arith) (h.saves.quiet n place (record_name m.desc.which n) home refl) was.body) done.here.torn (h.saves.leaves.unsealed is n place home);
         whole = λ late. absurd (cc late);
       })
 
-  pub sealed_turned : IsSaving first c programs states events work.Sealed n m → OnlyAt place (Turned (record_name m.desc.which n) 1) states after → Tells states
+  pub sealed_turned : c.opened ≡ None → IsSaving first c programs states events work.Sealed n m → OnlyAt place (Turned (record_name m.desc.which n) 1) states after → Tells states
       → IsSaving first c programs after events work.SealedSync n m
-  sealed_turned h done tells =
+  sealed_turned closed h done tells =
       let old = cells_of states place (record_name m.desc.which n) in
       let was : RecordIs old m n true false = subst (λ (b : Bool). RecordIs old m n true b) (lt-self n) (h.saves.records n place home) in
       let put : cells_of after place (record_name m.desc.which n) ≡ Some (set (bytes_of old) 1 Rattle.gated_record.specs.Record.open_gate_byte) = done.here.now (tells place (low h.well)) (omega (arith, was.body.whole)) in
@@ -171,7 +171,7 @@ module _ (first : Machine) (c : Core) (programs : List (List Step)) (states afte
       (subst (λ (b : Bool). RecordIs (cells_of after place (record_name m.desc.which n)) m n true b) (sym (le-self n)) (subst (λ (o : Option (List ℕ)). RecordIs o m n true true) (sym put) is))
       refl (eq-self n)
       (record {
-        unsealed = λ early. absurd (cc early);
+        unsealed = λ is. absurd (cc (closed, is));
         whole = λ late. turned_whole ((states place).file (record_name m.desc.which n)) ((after place).file (record_name m.desc.which n)) (member_body m.desc n m.files)
             (has_byte ((states place).file (record_name m.desc.which n)) (member_body m.desc n m.files) 1 (omega arith) (h.saves.quiet n place (record_name m.desc.which n) home refl) was.body) done.here.torn (h.saves.leaves.whole refl n place home);
       })

@@ -1,5 +1,5 @@
 -- The moves of the encoder, over the devices.
-use Rattle.std.proofs.Common.{◌≡◌, ◌≢◌, ◌⊎◌, inl, inr, ℕ, ◌+◌, ◌<◌, Bool, true, false, List, Some, refl, sym, ap, ◌∙◌, subst, slice_get, arith}
+use Rattle.std.proofs.Common.{◌≡◌, ◌≢◌, ◌⊎◌, inl, inr, ℕ, ◌+◌, ◌<◌, Bool, true, false, List, Option, Some, refl, sym, ap, ◌∙◌, subst, slice_get, arith}
 use Rattle.std.proofs.lemmas.Bool.{cases_eq}
 use Rattle.std.proofs.lemmas.Option.{slice_get_within, get_or_from_slice_get}
 use Rattle.std.proofs.lemmas.List.FromFn.{length-range_with_len, get_or-range_with_len}
@@ -55,14 +55,14 @@ pub record StaysElsewhere (w v : Work) (n k : ℕ) (nodes : ℕ) : Type 0 where
   pub sealing : is_sealing_work v ≡ is_sealing_work w
 
 -- what a stop leaves of the record that was changed
-pub record LeavesRecord (v : Work) (f : File) (body : List ℕ) : Type 0 where
-  pub unsealed : is_sealing_work v ≡ false → StaysShut f 1
+pub record LeavesRecord (v : Work) (opened : Option Manifest) (m : Manifest) (f : File) (body : List ℕ) : Type 0 where
+  pub unsealed : opened ≡ Some m → StaysShut f 1
   pub whole : is_sealing_work v ≡ true → StaysWhole f body
 
 -- a record was written, or a gate of it turned, done or refused
-module _ (w v : Work) (n : ℕ) (c : Core) (m : Manifest) (states after : ℕ → DeviceState) (well : IsWell c) (place : ℕ) (home : slice_get c.places n ≡ Some place) (h : LeavesSaved w n c.places m states)
+module _ (w v : Work) (n : ℕ) (c : Core) (m : Manifest) (states after : ℕ → DeviceState) (well : IsWell c) (place : ℕ) (home : slice_get c.places n ≡ Some place) (h : LeavesSaved w n c.places c.opened m states)
     (done : OnlyAt place (λ a b. ChangesOnly (record_name m.desc.which n) a b) states after) (fills : (i : ℕ) → is_filling_at v n i ≡ false → is_filling_at w n i ≡ false) (sealing : is_sealing_work v ≡ is_sealing_work w)
-    (left : LeavesRecord v ((after place).file (record_name m.desc.which n)) (member_body m.desc n m.files)) where
+    (left : LeavesRecord v c.opened m ((after place).file (record_name m.desc.which n)) (member_body m.desc n m.files)) where
   node_at : (i p : ℕ) → slice_get c.places i ≡ Some p → i ≢ n → after p ≡ states p
   node_at i p at other = done.others p (λ same. other (sym (place_of_node c i p well at).0 ∙ same ∙ (place_of_node c n place well home).0))
 
@@ -72,7 +72,7 @@ module _ (w v : Work) (n : ℕ) (c : Core) (m : Manifest) (states after : ℕ �
   node_is : (i p : ℕ) → slice_get c.places i ≡ Some p → p ≡ place → i ≡ n
   node_is i p at is = sym (place_of_node c i p well at).0 ∙ is ∙ (place_of_node c n place well home).0
 
-  pub put_leaves : LeavesSaved v n c.places m after
+  pub put_leaves : LeavesSaved v n c.places c.opened m after
   put_leaves = record {
     elsewhere = λ p node low at off. rest_stays place (record_name m.desc.which n) states after done p (record_name m.desc.which node) (λ is e. off (at_home node p is at e)) (h.elsewhere p node low at off);
     parts = λ i p q at calm other. rest_stays place (record_name m.desc.which n) states after done p q (λ is e. other (e ∙ ap (λ (k : ℕ). record_name m.desc.which k) (sym (node_is i p at is)))) (h.parts i p q at (fills i calm) other);
@@ -84,9 +84,9 @@ module _ (w v : Work) (n : ℕ) (c : Core) (m : Manifest) (states after : ℕ �
         let same : node ≡ n = (records-same m.desc.which m.desc.which node n at (is_place m.desc n (node_small c n place well home)) e).node_is in
         ap (λ (k : ℕ). slice_get c.places k) same ∙ home ∙ ap Some (sym is)
 
-    shut : (i p : ℕ) → slice_get c.places i ≡ Some p → is_sealing_work v ≡ false → (i ≡ n) ⊎ (i ≢ n) → StaysShut ((after p).file (record_name m.desc.which i)) 1
+    shut : (i p : ℕ) → slice_get c.places i ≡ Some p → c.opened ≡ Some m → (i ≡ n) ⊎ (i ≢ n) → StaysShut ((after p).file (record_name m.desc.which i)) 1
     shut i p at calm (inl same) = subst (λ (j : ℕ). StaysShut ((after p).file (record_name m.desc.which j)) 1) (sym same) (subst (λ (x : ℕ). StaysShut ((after x).file (record_name m.desc.which n)) 1) (sym (here_is i p at same)) (left.unsealed calm))
-    shut i p at calm (inr other) = subst (λ (d : DeviceState). StaysShut (d.file (record_name m.desc.which i)) 1) (sym (node_at i p at other)) (h.unsealed (sym sealing ∙ calm) i p at)
+    shut i p at calm (inr other) = subst (λ (d : DeviceState). StaysShut (d.file (record_name m.desc.which i)) 1) (sym (node_at i p at other)) (h.unsealed calm i p at)
 
     whole : (i p : ℕ) → slice_get c.places i ≡ Some p → is_sealing_work v ≡ true → (i ≡ n) ⊎ (i ≢ n) → StaysWhole ((after p).file (record_name m.desc.which i)) (member_body m.desc i m.files)
     whole i p at calm (inl same) = subst (λ (j : ℕ). StaysWhole ((after p).file (record_name m.desc.which j)) (member_body m.desc j m.files)) (sym same) (subst (λ (x : ℕ). StaysWhole ((after x).file (record_name m.desc.which n)) (member_body m.desc n m.files)) (sym (here_is i p at same)) (left.whole calm))
@@ -97,7 +97,7 @@ module _ (w v : Work) (n : ℕ) (c : Core) (m : Manifest) (states after : ℕ �
     (stays : StaysElsewhere w v n n c.shape.nodes)
     (new : RecordAt (is_written_at v n n) (cells_of after place (record_name m.desc.which n)) m n (is_whole_at v n n) (is_sealed_at v n n))
     (wrote : is_written_at v n n ≡ true) (pends : is_pending_at v n n ≡ true)
-    (left : LeavesRecord v ((after place).file (record_name m.desc.which n)) (member_body m.desc n m.files)) where
+    (left : LeavesRecord v c.opened m ((after place).file (record_name m.desc.which n)) (member_body m.desc n m.files)) where
   away : (i p : ℕ) → slice_get c.places i ≡ Some p → i ≢ n → p ≢ place
   away i p at other same = other (sym (place_of_node c i p well at).0 ∙ same ∙ (place_of_node c n place well home).0)
 
@@ -166,7 +166,7 @@ sync_saves w v n k c m states after well place home h done stays = record {
   leaves = record {
     elsewhere = λ p node low at off. synced_rest place states after done p (record_name m.desc.which node) (h.leaves.elsewhere p node low at off);
     parts = λ i p q at calm other. at_parts i p q at other (stays.fills i (place_of_node c i p well at).1 calm);
-    unsealed = λ calm i p at. synced_shut ((states p).file (record_name m.desc.which i)) ((after p).file (record_name m.desc.which i)) 1 (sync_partly place states after done p (record_name m.desc.which i)) (h.leaves.unsealed (stays.shut calm) i p at);
+    unsealed = λ calm i p at. synced_shut ((states p).file (record_name m.desc.which i)) ((after p).file (record_name m.desc.which i)) 1 (sync_partly place states after done p (record_name m.desc.which i)) (h.leaves.unsealed calm i p at);
     whole = λ calm i p at. at_whole i p at (stays.whole_then calm);
   };
 } where
@@ -238,7 +238,7 @@ saving_leads first c programs states events w n m h =
 pub save_put : (first : Machine) (c : Core) (programs : List (List Step)) (states after : ℕ → DeviceState) (events : List Event) (w v : Work) (n : ℕ) (m : Manifest) (place : ℕ) → slice_get c.places n ≡ Some place → IsSaving first c programs states events w n m
     → OnlyAt place (λ a b. ChangesOnly (record_name m.desc.which n) a b) states after → StaysElsewhere w v n n c.shape.nodes
     → RecordAt (is_written_at v n n) (cells_of after place (record_name m.desc.which n)) m n (is_whole_at v n n) (is_sealed_at v n n) → is_written_at v n n ≡ true → is_pending_at v n n ≡ true
-    → LeavesRecord v ((after place).file (record_name m.desc.which n)) (member_body m.desc n m.files)
+    → LeavesRecord v c.opened m ((after place).file (record_name m.desc.which n)) (member_body m.desc n m.files)
     → IsSaving first c programs after events v n m
 save_put first c programs states after events w v n m place home h done stays new wrote pends left =
     let change = file_changes place (record_name m.desc.which n) states after done in

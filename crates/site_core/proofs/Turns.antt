@@ -1,5 +1,5 @@
 -- What a turn told.
-use Rattle.std.proofs.Common.{◌≡◌, ◌≢◌, ◌⊎◌, inl, refl, sym, subst, true, false, Option, Some, slice_get, Result, Ok, Err, IfOk, ap, ◌∙◌, inr, ℕ, List, [], ◌∷◌, ◌++◌, arith}
+use Rattle.std.proofs.Common.{◌≡◌, ◌≢◌, ◌⊎◌, inl, refl, sym, subst, true, false, Option, None, Some, slice_get, Result, Ok, Err, IfOk, ap, ◌∙◌, inr, ℕ, List, [], ◌∷◌, ◌++◌, arith}
 use Rattle.node_device.specs.DeviceState.{DeviceState}
 use Rattle.ckpt_model.specs.declared.event.Event.{Event}
 use Rattle.scr_base.specs.declared.answers.Refusal.{Refusal}
@@ -32,7 +32,19 @@ use Rattle.site_core.specs.Holds.{IsSaving}
 use Rattle.site_core.specs.Shown.{running}
 use Rattle.site_core.specs.Stored.{cells_of, contents_of}
 use Rattle.site_core.specs.Waiting.{is_over}
-use Rattle.site_core.proofs.LeftStages.{IsLeft, stage_left, left_apart, left_alike, whole_refused, sealed_refused, loose_left, loose_of}
+use Rattle.std.specs.Prelude.{IsTrue}
+use Rattle.ckpt_model.specs.declared.event.StopCause.{StopCause}
+use Rattle.ckpt_model.specs.Moves.{may}
+use Rattle.ckpt_model.specs.Stops.{may_make}
+use Rattle.site_core.specs.declared.error.Trouble.TheVariants as error
+use Rattle.site_core.specs.Cores.{sealed_core}
+use Rattle.site_core.specs.Left.{LeavesKept}
+use Rattle.site_core.specs.Shown.{setup_of}
+use Rattle.site_core.proofs.Gates.{both}
+use Rattle.site_core.proofs.SaveEnds.{seal_told}
+use Rattle.site_core.proofs.Seals.{sealing}
+use Rattle.site_core.proofs.Works.{opened_is}
+use Rattle.site_core.proofs.LeftStages.{IsLeft, Remains, remains, stage_left, left_apart, left_alike, whole_refused, sealed_refused, loose_left, loose_of}
 use Rattle.site_core.specs.declared.turn.Turn.{Turn}
 use Rattle.site_core.specs.declared.turn.Turn.TheVariants as turn
 use Rattle.site_core.specs.declared.error.SiteError.{SiteError}
@@ -116,13 +128,13 @@ module _ {D : Type 0} (state : D → DeviceState) (old new : Site D) (t : Troubl
 
     -- what is left of a run that saves a dataset, whichever that is
     abbrev pub SavingLeft : Work → ℕ → Rack D → Type 0
-    SavingLeft w n bay = (first : Machine) (m : Manifest) → IsSaving first old.core old.programs (states_of state old.bay) old.history.events w n m → IsLeft old.core (states_of state bay) (running (contents_of (cells_of (states_of state old.bay)) old.core) old.core)
+    SavingLeft w n bay = (first : Machine) (m : Manifest) → IsSaving first old.core old.programs (states_of state old.bay) old.history.events w n m → Remains old.core (states_of state bay) (running (contents_of (cells_of (states_of state old.bay)) old.core) old.core) (cause_of t)
 
     pub ends_saving : (w : Work) (n : ℕ) → old.core.stage ≡ stage.Saving w n → is_device_fault t ≡ true → (bay : Rack D) → new.bay ≡ bay → SavingLeft w n bay → Keeps state old new
     ends_saving w n at fault bay same left tells first f =
         let h = saves_now first old.core old.programs (states_of state old.bay) old.history.events w n at f in
         leads_so first (cut_saving first old.core old.programs (states_of state old.bay) (states_of state new.bay) old.history.events new.history.events t w n h.0 h.1 fault is
-        (subst (λ (b : Rack D). IsLeft old.core (states_of state b) (running (contents_of (cells_of (states_of state old.bay)) old.core) old.core)) (sym same) (left first h.0 h.1)))
+        (subst (λ (b : Rack D). Remains old.core (states_of state b) (running (contents_of (cells_of (states_of state old.bay)) old.core) old.core) (cause_of t)) (sym same) (left first h.0 h.1)))
 
   -- the number's way may have changed with it
   pub ends_storing : (w : Way) → new.core ≡ (let x : Core = record old.core { stage = stage.Cut; storing = w } in x) → new.programs ≡ old.programs → old.core.stage ≡ stage.Storing → is_told t ≡ true
@@ -136,22 +148,48 @@ module _ {D : Type 0} (state : D → DeviceState) (old new : Site D) (t : Troubl
 -- ## What is left of a run that saves a dataset
 
 module _ {D : Type 0} (state : D → DeviceState) (old : Site D) (n place : ℕ) (bay : Rack D) where
+  abbrev before : Machine
+  before = running (contents_of (cells_of (states_of state old.bay)) old.core) old.core
+
   -- a sync was refused
-  pub synced_left : (w : Work) → OnlyAt place KeptAlike (states_of state old.bay) (states_of state bay) → (first : Machine) (m : Manifest) → IsSaving first old.core old.programs (states_of state old.bay) old.history.events w n m
-      → IsLeft old.core (states_of state bay) (running (contents_of (cells_of (states_of state old.bay)) old.core) old.core)
-  synced_left w done first m h = left_alike old.core place (states_of state old.bay) (states_of state bay) (running (contents_of (cells_of (states_of state old.bay)) old.core) old.core) done
-      (loose_left w n old.core m (states_of state old.bay) (loose_of first old.core old.programs (states_of state old.bay) old.history.events w n m h))
+  pub synced_left : (w : Work) (why : StopCause) → OnlyAt place KeptAlike (states_of state old.bay) (states_of state bay) → (first : Machine) (m : Manifest) → IsSaving first old.core old.programs (states_of state old.bay) old.history.events w n m → Remains old.core (states_of state bay) before why
+  synced_left w why done first m h = remains old.core (states_of state bay) before why (left_alike old.core place (states_of state old.bay) (states_of state bay) before done
+      (loose_left w n old.core m (states_of state old.bay) (loose_of first old.core old.programs (states_of state old.bay) old.history.events w n m h)))
 
   -- a gate `whole` was
-  pub whole_left : (which : DataId) → slice_get old.core.places n ≡ Some place → Some which ≡ saved_in old.core.opened old.core.kept → OnlyAt place (Unturned (record_name which n) 0) (states_of state old.bay) (states_of state bay)
-      → (first : Machine) (m : Manifest) → IsSaving first old.core old.programs (states_of state old.bay) old.history.events work.Whole n m → IsLeft old.core (states_of state bay) (running (contents_of (cells_of (states_of state old.bay)) old.core) old.core)
-  whole_left which home is done first m h =
+  pub whole_left : (which : DataId) (why : StopCause) → slice_get old.core.places n ≡ Some place → Some which ≡ saved_in old.core.opened old.core.kept → OnlyAt place (Unturned (record_name which n) 0) (states_of state old.bay) (states_of state bay)
+      → (first : Machine) (m : Manifest) → IsSaving first old.core old.programs (states_of state old.bay) old.history.events work.Whole n m → Remains old.core (states_of state bay) before why
+  whole_left which why home is done first m h =
       let same = saved_is first old.core old.programs (states_of state old.bay) old.history.events work.Whole n m which h is in
-      whole_refused first old.core old.programs (states_of state old.bay) (states_of state bay) old.history.events n m h place home (subst (λ (w : DataId). OnlyAt place (Unturned (record_name w n) 0) (states_of state old.bay) (states_of state bay)) same done)
+      remains old.core (states_of state bay) before why (whole_refused first old.core old.programs (states_of state old.bay) (states_of state bay) old.history.events n m h place home
+      (subst (λ (w : DataId). OnlyAt place (Unturned (record_name w n) 0) (states_of state old.bay) (states_of state bay)) same done))
 
-  -- a gate `sealed` was
-  pub sealed_left : (which : DataId) → slice_get old.core.places n ≡ Some place → Some which ≡ saved_in old.core.opened old.core.kept → OnlyAt place (Unturned (record_name which n) 1) (states_of state old.bay) (states_of state bay)
-      → (first : Machine) (m : Manifest) → IsSaving first old.core old.programs (states_of state old.bay) old.history.events work.Sealed n m → IsLeft old.core (states_of state bay) (running (contents_of (cells_of (states_of state old.bay)) old.core) old.core)
-  sealed_left which home is done first m h =
+  -- a gate `sealed` was, of a dataset that is in cache already
+  pub sealed_left : (which : DataId) (why : StopCause) → old.core.opened ≡ None → slice_get old.core.places n ≡ Some place → Some which ≡ saved_in old.core.opened old.core.kept → OnlyAt place (Unturned (record_name which n) 1) (states_of state old.bay) (states_of state bay)
+      → (first : Machine) (m : Manifest) → IsSaving first old.core old.programs (states_of state old.bay) old.history.events work.Sealed n m → Remains old.core (states_of state bay) before why
+  sealed_left which why closed home is done first m h =
       let same = saved_is first old.core old.programs (states_of state old.bay) old.history.events work.Sealed n m which h is in
-      sealed_refused first old.core old.programs (states_of state old.bay) (states_of state bay) old.history.events n m h place home (subst (λ (w : DataId). OnlyAt place (Unturned (record_name w n) 1) (states_of state old.bay) (states_of state bay)) same done)
+      remains old.core (states_of state bay) before why (sealed_refused first old.core old.programs (states_of state old.bay) (states_of state bay) old.history.events n m closed h place home
+      (subst (λ (w : DataId). OnlyAt place (Unturned (record_name w n) 1) (states_of state old.bay) (states_of state bay)) same done))
+
+  -- the first gate `sealed` was: it may be open all the same, and then the dataset is in cache
+  pub sealing_left : (m : Manifest) (t : Trouble) → is_device_fault t ≡ true → old.core.opened ≡ Some m → slice_get old.core.places n ≡ Some place → OnlyAt place (Unturned (record_name m.desc.which n) 1) (states_of state old.bay) (states_of state bay)
+      → (first : Machine) (x : Manifest) → IsSaving first old.core old.programs (states_of state old.bay) old.history.events work.Sealed n x → Remains old.core (states_of state bay) before (cause_of t)
+  sealing_left m t fault opened home done first x saving =
+      let c = old.core in
+      let states = states_of state old.bay in
+      let bytes = contents_of (cells_of states) c in
+      let e = event.Sealing m.desc.which in
+      let same : m ≡ x = opened_is first c old.programs states old.history.events work.Sealed n x m saving opened in
+      let h = subst (λ (y : Manifest). IsSaving first c old.programs states old.history.events work.Sealed n y) (sym same) saving in
+      let l = sealed_refused first (sealed_core c m) old.programs states (states_of state bay) (old.history.events ++ e ∷ []) n m refl (seal_told first c old.programs states old.history.events (old.history.events ++ e ∷ []) work.Sealed n m h refl opened refl) place home done in
+      let step = sealing c bytes h.saves.round.valid m h.saves.round.complete h.saves.round.first h.saves.round.clear h.saves.round.all opened (h.well.opened_last m opened) in
+      record {
+        made = e ∷ [];
+        may = may_seal_first t fault step.0;
+        leaves = subst (λ (y : Machine). LeavesKept (setup_of c) c.places (states_of state bay) y) step.1 l.leaves;
+      } where
+        may_seal_first : (t : Trouble) → is_device_fault t ≡ true → IsTrue (may (setup_of old.core) before (event.Sealing m.desc.which)) → IsTrue (may_make (setup_of old.core) before (cause_of t) (event.Sealing m.desc.which ∷ []))
+        may_seal_first error.Memory f is = absurd (cc f)
+        may_seal_first (error.Full node used capacity) f is = absurd (cc f)
+        may_seal_first (error.Fault node count) f is = both _ _ is refl

@@ -1,5 +1,5 @@
 -- What devices stand for between two runs, and what holds between two moves of a run.
-use Rattle.std.specs.Prelude.{◌≡◌, ◌≢◌, ◌⊎◌, ◌<◌, ◌≤◌, ◌+◌, ◌*◌, ◌^◌, nat_lt, nat_le, not, ◌==◌, ℕ, Bool, true, false, IsTrue, List, [], ◌∷◌, ◌++◌, map, replicate, Option, None, Some, slice_get, codes}
+use Rattle.std.specs.Prelude.{◌≡◌, ◌≢◌, ◌⊎◌, ◌<◌, ◌≤◌, ◌+◌, ◌*◌, ◌^◌, nat_lt, nat_le, not, ◌==◌, ℕ, Bool, true, false, IsTrue, List, [], ◌∷◌, ◌++◌, map, fold, replicate, Option, None, Some, slice_get, codes}
 use Rattle.std.specs.List.{list_all, list_any}
 use Rattle.halt_file.specs.Conditions.{conditions}
 use Rattle.scr_base.specs.Sets.{numbers_below}
@@ -28,7 +28,8 @@ use Rattle.ckpt_model.specs.Machine.{Machine, Setup, Stage as Place}
 use Rattle.ckpt_model.specs.Legal.{IsRunOf, AreOfPrograms, begins_run, is_stop}
 use Rattle.ckpt_model.specs.Legal.Place.{AtEnd}
 use Rattle.ckpt_model.specs.Runs.{RunsTo}
-use Rattle.ckpt_model.specs.Stops.{may_stop}
+use Rattle.ckpt_model.specs.Stops.{may_choose}
+use Rattle.ckpt_model.specs.Moves.{after}
 use Rattle.ckpt_model.specs.declared.event.Event.{Event}
 use Rattle.round_core.specs.Seats.{fresh_seat, is_complete, first_call, seat_is_valid}
 use Rattle.site_core.specs.declared.cache.Cached.{Cached}
@@ -182,7 +183,7 @@ pub record SavesAt (w : Work) (n : ℕ) (c : Core) (m : Manifest) (states : ℕ 
   pub records : (node p : ℕ) → slice_get c.places node ≡ Some p → RecordAt (is_written_at w n node) (((states p).file (record_name m.desc.which node)).now) m node (is_whole_at w n node) (is_sealed_at w n node)
   pub clean : (node p : ℕ) → slice_get c.places node ≡ Some p → is_written_at w n node ≡ false → IsAtRest ((states p).file (record_name m.desc.which node))
   pub quiet : (node p : ℕ) (q : List ℕ) → slice_get c.places node ≡ Some p → is_pending_at w n node ≡ false → IsAtRest ((states p).file q)
-  pub leaves : LeavesSaved w n c.places m states
+  pub leaves : LeavesSaved w n c.places c.opened m states
 
 -- the dataset that is being saved: before its sealing it is the open one, and then the last in cache
 abbrev pub IsSaved : Work → ℕ → Core → Manifest → Type 0
@@ -345,15 +346,17 @@ ToldAt stage.Stopped places programs events = IsRunOf places programs AtEnd even
 ToldAt stage.Cut places programs events = IsCutRun places programs events
 ToldAt _ places programs events = IsSoFar places programs events
 
--- Before its end the run had come to a state whose datasets in cache are left whole, whatever a stop leaves.
+-- Before its end the run had come to a state that allows it. With the first change of a gate that the device may have made though it
+-- refused it, if there is one, the datasets that the machine then keeps are left so, whatever a stop leaves.
 pub record HasLeft (s : Setup) (first : Machine) (places : List ℕ) (states : ℕ → DeviceState) (events : List Event) : Type 0 where
   pub front : List Event
   pub cause : StopCause
   pub is : events ≡ front ++ event.Stop cause ∷ []
   pub before : Machine
   pub run : RunsTo s first front before
-  pub may : IsTrue (may_stop before cause)
-  pub leaves : LeavesKept s places states before
+  pub made : List Event
+  pub may : IsTrue (may_choose s before cause (record { made = made; entries = []; took = false; stored = false }))
+  pub leaves : LeavesKept s places states (fold (after s) before made)
 
 -- what is left of a run that was cut
 abbrev pub LeftAt : Stage → Setup → Machine → List ℕ → (ℕ → DeviceState) → List Event → Type 0

@@ -1,5 +1,5 @@
 -- What a stop may leave of the datasets of a run.
-use Rattle.std.specs.Prelude.{◌≡◌, ◌≢◌, ◌<◌, ℕ, Bool, true, false, nat_le, List, Some, slice_get}
+use Rattle.std.specs.Prelude.{◌≡◌, ◌≢◌, ◌<◌, ℕ, Bool, true, false, nat_le, List, map, Option, Some, None, slice_get}
 use Rattle.scr_base.specs.declared.shape.DataId.{DataId}
 use Rattle.node_device.specs.File.{IsAtRest}
 use Rattle.node_device.specs.DeviceState.{DeviceState}
@@ -17,7 +17,6 @@ use Rattle.site_core.specs.declared.core_state.Work.{Work}
 use Rattle.site_core.specs.declared.core_state.Work.TheVariants as work
 use Rattle.site_core.specs.Shown.{kept_of, is_doubtful}
 use Rattle.site_core.specs.Stored.{cells_of, contents_in, place_of_rank, file_name, FileStands}
-use Rattle.std.specs.Prelude.{map}
 
 -- ## A dataset that is being saved
 
@@ -33,12 +32,12 @@ is_sealing_work work.Sealed = true
 is_sealing_work work.SealedSync = true
 is_sealing_work _ = false
 
--- Until the gates `sealed` are opened a stop leaves none of them open; from then on it leaves each record whole. But for records at home
--- nothing is pending once these are stable.
-pub record LeavesSaved (w : Work) (n : ℕ) (places : List ℕ) (m : Manifest) (states : ℕ → DeviceState) : Type 0 where
+-- While the dataset is open a stop leaves no record of it sealed; once gates `sealed` are to be opened it leaves each record whole. When
+-- a node's record is stable, nothing but records is pending there; and no record is but at home.
+pub record LeavesSaved (w : Work) (n : ℕ) (places : List ℕ) (opened : Option Manifest) (m : Manifest) (states : ℕ → DeviceState) : Type 0 where
   pub elsewhere : (p node : ℕ) → p < 32 → IsPlace m.desc.which node → (slice_get places node ≡ Some p → ⊥) → IsAtRest ((states p).file (record_name m.desc.which node))
   pub parts : (node p : ℕ) (q : List ℕ) → slice_get places node ≡ Some p → is_filling_at w n node ≡ false → q ≢ record_name m.desc.which node → IsAtRest ((states p).file q)
-  pub unsealed : is_sealing_work w ≡ false → (node p : ℕ) → slice_get places node ≡ Some p → StaysShut ((states p).file (record_name m.desc.which node)) 1
+  pub unsealed : opened ≡ Some m → (node p : ℕ) → slice_get places node ≡ Some p → StaysShut ((states p).file (record_name m.desc.which node)) 1
   pub whole : is_sealing_work w ≡ true → (node p : ℕ) → slice_get places node ≡ Some p → StaysWhole ((states p).file (record_name m.desc.which node)) (member_body m.desc node m.files)
 
 -- no record of the dataset is left sealed
@@ -53,19 +52,17 @@ pub record LeavesWhole (places : List ℕ) (ranks : ℕ) (states : ℕ → Devic
   pub files : (rank j : ℕ) (row : FileRow) → slice_get (rows_of m.files rank) j ≡ Some row
       → Leaves ((states (place_of_rank places ranks rank)).file (file_name m.desc.which ranks rank j)) (λ o. FileStands o row × (o ≡ cells_of states (place_of_rank places ranks rank) (file_name m.desc.which ranks rank j)))
 
--- the record is a node's, at home, of a dataset that is left whole
-pub record IsOfWhole (places : List ℕ) (ranks : ℕ) (states : ℕ → DeviceState) (which : DataId) (node p : ℕ) : Type 0 where
-  pub set : Manifest
-  pub which_is : set.desc.which ≡ which
-  pub home : slice_get places node ≡ Some p
-  pub whole : LeavesWhole places ranks states set
+-- it is none of these
+abbrev pub IsNoneOf : List Cached → DataId → Type 0
+IsNoneOf sets which = (i : ℕ) (x : Cached) → slice_get sets i ≡ Some x → x.manifest.desc.which ≡ which → ⊥
 
--- Whatever a stop leaves, each of these datasets is whole, and sealed unless it is in doubt; and no record is sealed but of a dataset
--- that is whole.
+-- Whatever a stop leaves, each of these datasets is whole, and sealed unless it is in doubt; no record of one is anywhere but at home; and
+-- of no other dataset a record is sealed.
 pub record LeavesCache (places : List ℕ) (ranks : ℕ) (states : ℕ → DeviceState) (sets : List Cached) : Type 0 where
   pub whole : (i : ℕ) (x : Cached) → slice_get sets i ≡ Some x → LeavesWhole places ranks states x.manifest
   pub sealed : (i : ℕ) (x : Cached) → slice_get sets i ≡ Some x → is_doubtful x.mark ≡ false → (node p : ℕ) → slice_get places node ≡ Some p → StaysOpen ((states p).file (record_name x.manifest.desc.which node)) 1
-  pub others : (p : ℕ) (which : DataId) (node : ℕ) → p < 32 → IsPlace which node → Leaves ((states p).file (record_name which node)) (λ o. IsOpen o 1 → IsOfWhole places ranks states which node p)
+  pub away : (i : ℕ) (x : Cached) → slice_get sets i ≡ Some x → (p node : ℕ) → p < 32 → IsPlace x.manifest.desc.which node → (slice_get places node ≡ Some p → ⊥) → Leaves ((states p).file (record_name x.manifest.desc.which node)) (λ o. o ≡ None)
+  pub others : (p : ℕ) (which : DataId) (node : ℕ) → p < 32 → IsPlace which node → IsNoneOf sets which → Leaves ((states p).file (record_name which node)) (λ o. IsOpen o 1 → ⊥)
 
 -- the datasets that the machine keeps are left so
 pub record LeavesKept (s : Setup) (places : List ℕ) (states : ℕ → DeviceState) (m : Machine) : Type 0 where

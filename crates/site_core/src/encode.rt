@@ -292,6 +292,7 @@ impl<D: Device> Site<D> {
     /// A later node's gate `sealed` is opened.
     fn seal_next(&mut self, node: u8) -> Result<Turn, SiteError>
         requires stage { self.old.core.stage ≡ Stage.Saving Work.Sealed node }
+        requires closed { self.old.core.opened ≡ None }
         ensures run { OnOk result (Keeps D.state self.old self.new) }
         ensures lowers { IfOk result (λ turn. Lowers turn self.old self.new) }
         ensures order { OnOk result (KeepsOrder self.old self.new) }

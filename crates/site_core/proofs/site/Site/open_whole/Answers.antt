@@ -18,6 +18,7 @@ use Rattle.std.proofs.Common.{◌∙◌, ap, sym, subst}
 use Rattle.site_core.specs.Writes.{IsWrite, EncoderWrites}
 use Rattle.site_core.specs.declared.core_state.Stage.{Stage}
 use Rattle.site_core.proofs.Fulls.{passes_this, gate_write, end_full}
+use Rattle.site_core.specs.Causes.{cause_of}
 use Rattle.site_core.proofs.site.Site.open_whole.Goals as goal
 
 pub returns-in-Ok-clause-run : goal.returns-in-Ok-clause-run
@@ -32,7 +33,7 @@ returns-in-Ok-clause-run g c = λ tells first f.
     (whole_turned first s.core s.programs old new s.history.events c.args.node h.0 c.in-Some.place (sym c.in-Some.ensures.place) h.1 turned (tells_all g.D.Device.state tells s.bay)))
 
 pub returns-in-Err-clause-run : goal.returns-in-Err-clause-run
-returns-in-Err-clause-run g c = on_ok3 c.stop_by_fault.result (λ e k t. ends_saving g.D.Device.state c.args.self.now c.stop_by_fault.new.self c.in-Err.trouble (behind _ e c.reserve.ensures.events) k c.stop_by_fault.ensures.fixed.programs work.Whole c.args.node c.requires.stage t c.put_gate.new.bay c.stop_by_fault.ensures.bay (whole_left g.D.Device.state c.args.self.now c.args.node c.in-Some.place c.put_gate.new.bay c.in-Some-saved.which (sym c.in-Some.ensures.place) c.in-Some-saved.ensures c.in-Err.ensures.refused))
+returns-in-Err-clause-run g c = on_ok3 c.stop_by_fault.result (λ e k t. ends_saving g.D.Device.state c.args.self.now c.stop_by_fault.new.self c.in-Err.trouble (behind _ e c.reserve.ensures.events) k c.stop_by_fault.ensures.fixed.programs work.Whole c.args.node c.requires.stage t c.put_gate.new.bay c.stop_by_fault.ensures.bay (whole_left g.D.Device.state c.args.self.now c.args.node c.in-Some.place c.put_gate.new.bay c.in-Some-saved.which (cause_of c.in-Err.trouble) (sym c.in-Some.ensures.place) c.in-Some-saved.ensures c.in-Err.ensures.refused))
     c.stop_by_fault.ensures.events c.stop_by_fault.ensures.core c.stop_by_fault.ensures.fault
 
 pub returns-in-Err-clause-told : goal.returns-in-Err-clause-told

@@ -11,6 +11,7 @@ use Rattle.site_core.proofs.AheadCores.{next_lower}
 use Rattle.site_core.specs.declared.core_state.Stage.TheVariants as stage
 use Rattle.site_core.specs.Waiting.{is_over}
 use Rattle.site_core.proofs.Told.{behind, with_room}
+use Rattle.site_core.specs.Causes.{cause_of}
 use Rattle.site_core.proofs.site.Site.sync_next.Goals as goal
 
 pub returns-in-Ok-clause-run : goal.returns-in-Ok-clause-run
@@ -23,7 +24,7 @@ returns-in-Ok-clause-run g c = λ tells first f.
     (sealed_synced first s.core s.programs old new s.history.events c.args.node h.0 c.in-Some.place (sym c.in-Some.ensures.place) (omega (arith, c.requires.more)) h.1 c.in-Ok.ensures.synced))
 
 pub returns-in-Err-clause-run : goal.returns-in-Err-clause-run
-returns-in-Err-clause-run g c = on_ok3 c.stop_by_fault.result (λ e k t. ends_saving g.D.Device.state c.args.self.now c.stop_by_fault.new.self c.in-Err.trouble (behind _ e c.reserve.ensures.events) k c.stop_by_fault.ensures.fixed.programs work.SealedSync c.args.node c.requires.stage t c.sync_node.new.bay c.stop_by_fault.ensures.bay (synced_left g.D.Device.state c.args.self.now c.args.node c.in-Some.place c.sync_node.new.bay work.SealedSync c.in-Err.ensures.refused))
+returns-in-Err-clause-run g c = on_ok3 c.stop_by_fault.result (λ e k t. ends_saving g.D.Device.state c.args.self.now c.stop_by_fault.new.self c.in-Err.trouble (behind _ e c.reserve.ensures.events) k c.stop_by_fault.ensures.fixed.programs work.SealedSync c.args.node c.requires.stage t c.sync_node.new.bay c.stop_by_fault.ensures.bay (synced_left g.D.Device.state c.args.self.now c.args.node c.in-Some.place c.sync_node.new.bay work.SealedSync (cause_of c.in-Err.trouble) c.in-Err.ensures.refused))
     c.stop_by_fault.ensures.events c.stop_by_fault.ensures.core c.stop_by_fault.ensures.fault
 
 pub returns-in-Err-clause-told : goal.returns-in-Err-clause-told

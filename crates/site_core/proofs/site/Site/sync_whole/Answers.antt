@@ -11,6 +11,7 @@ use Rattle.site_core.proofs.Turns.{ends_saving, synced_left, tells_end, moved_st
 use Rattle.site_core.proofs.AheadCores.{whole_done}
 use Rattle.site_core.specs.Waiting.{is_over}
 use Rattle.site_core.proofs.Told.{behind, with_room}
+use Rattle.site_core.specs.Causes.{cause_of}
 use Rattle.site_core.proofs.site.Site.sync_whole.Goals as goal
 
 pub returns-in-Ok-clause-run : goal.returns-in-Ok-clause-run
@@ -23,7 +24,7 @@ returns-in-Ok-clause-run g c = λ tells first f.
     with_room c.reserve.ensures.events (subst (λ (x : Stage). Leads first (staged s.core x) s.programs new s.history.events) (sym c.after-self.ensures) l)
 
 pub returns-in-Err-clause-run : goal.returns-in-Err-clause-run
-returns-in-Err-clause-run g c = on_ok3 c.stop_by_fault.result (λ e k t. ends_saving g.D.Device.state c.args.self.now c.stop_by_fault.new.self c.in-Err.trouble (behind _ e c.reserve.ensures.events) k c.stop_by_fault.ensures.fixed.programs work.WholeSync c.args.node c.requires.stage t c.sync_node.new.bay c.stop_by_fault.ensures.bay (synced_left g.D.Device.state c.args.self.now c.args.node c.in-Some.place c.sync_node.new.bay work.WholeSync c.in-Err.ensures.refused))
+returns-in-Err-clause-run g c = on_ok3 c.stop_by_fault.result (λ e k t. ends_saving g.D.Device.state c.args.self.now c.stop_by_fault.new.self c.in-Err.trouble (behind _ e c.reserve.ensures.events) k c.stop_by_fault.ensures.fixed.programs work.WholeSync c.args.node c.requires.stage t c.sync_node.new.bay c.stop_by_fault.ensures.bay (synced_left g.D.Device.state c.args.self.now c.args.node c.in-Some.place c.sync_node.new.bay work.WholeSync (cause_of c.in-Err.trouble) c.in-Err.ensures.refused))
     c.stop_by_fault.ensures.events c.stop_by_fault.ensures.core c.stop_by_fault.ensures.fault
 
 pub returns-in-Err-clause-told : goal.returns-in-Err-clause-told
