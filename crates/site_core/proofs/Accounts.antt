@@ -1,5 +1,5 @@
 -- What becomes of the faults that a turn meets.
-use Rattle.std.proofs.Common.{append-nil, arith, length, ◌≤◌, ◌≡◌, ◌⊎◌, inl, inr, ℕ, List, [], ◌∷◌, ◌++◌, Some, None, Err, true, refl, sym, ap, ◌∙◌, subst}
+use Rattle.std.proofs.Common.{append-nil, arith, ◌≡◌, ◌⊎◌, inl, inr, ℕ, List, [], ◌∷◌, ◌++◌, Some, None, Err, true, refl, sym, ap, ◌∙◌, subst}
 use Rattle.scr_base.specs.declared.actor.Actor.{Actor}
 use Rattle.scr_base.specs.declared.actor.Actor.TheVariants as actor
 use Rattle.scr_base.specs.declared.answers.Refusal.{Refusal}

@@ -1,8 +1,7 @@
 -- What a stop leaves of the datasets in cache.
-use Rattle.std.proofs.Common.{◌≡◌, ◌≢◌, ◌⊎◌, inl, inr, ℕ, zero, suc, ◌+◌, ◌*◌, ◌/◌, ◌<◌, ◌≤◌, ◌^◌, Bool, true, false, List, [], ◌∷◌, length, map, Option, Some, None, refl, sym, ap, ◌∙◌, subst, slice_get, arith}
+use Rattle.std.proofs.Common.{◌≡◌, ◌≢◌, ◌⊎◌, inl, inr, ℕ, ◌+◌, ◌/◌, ◌<◌, ◌≤◌, Bool, true, false, List, [], length, map, Option, Some, None, refl, sym, ap, ◌∙◌, subst, slice_get, arith}
 use Rattle.std.specs.Prelude.{slice_index, if◌then◌else◌}
 use Rattle.std.proofs.Math.Path.{fun_ext}
-use Rattle.std.proofs.lemmas.Bool.Decides.{nat_tests}
 use Rattle.std.proofs.lemmas.List.{get_or_past}
 use Rattle.std.proofs.lemmas.Option.{slice_get_within, get_or_from_slice_get}
 use Rattle.std.proofs.lemmas.List.FromFn.{length-range_with_len, get_or-range_with_len}
@@ -13,15 +12,14 @@ use Rattle.scr_base.specs.declared.shape.Shape.{Shape}
 use Rattle.node_device.specs.File.{File, IsAtRest, IsPartlySynced, MayLeave, bytes_of, byte_at}
 use Rattle.node_device.specs.DeviceState.{DeviceState}
 use Rattle.node_device.specs.Outcomes.{rest_leaves, true_or_false}
-use Rattle.gated_record.specs.Record.{IsOpen, open_gate_byte}
+use Rattle.gated_record.specs.Record.{IsOpen}
 use Rattle.gate_outcomes.specs.Leaves.{Leaves}
-use Rattle.gate_outcomes.specs.Gates.{StaysOpen, StaysWhole}
 use Rattle.gate_outcomes.proofs.Stays.{synced_open, synced_whole, rest_whole}
 use Rattle.filemap.specs.Maps.{rows_of}
 use Rattle.filemap.specs.declared.rows.FileRow.{FileRow}
 use Rattle.member_store.specs.Names.{record_name, IsPlace, IsNameOf}
 use Rattle.member_store.specs.Members.{member_body}
-use Rattle.ckpt_model.specs.Machine.{Machine, Setup, Kept}
+use Rattle.ckpt_model.specs.Machine.{Machine, Setup}
 use Rattle.ckpt_model.proofs.Plays.{same_id_is}
 use Rattle.site_core.specs.declared.cache.Cached.{Cached}
 use Rattle.site_core.specs.declared.cache.Manifest.{Manifest}
@@ -29,11 +27,11 @@ use Rattle.site_core.specs.declared.cache.Mark.{Mark}
 use Rattle.site_core.specs.declared.cache.Mark.TheVariants as mark
 use Rattle.site_core.specs.Choosing.{is_being_sealed}
 use Rattle.site_core.specs.Shown.{Contents, kept_of, is_doubtful}
-use Rattle.site_core.specs.Stored.{Cells, cells_of, contents_in, is_named, place_of_rank, file_name, FilesStand, FileStands, RecordIs, RecordsStand, NoOtherRecords, IsAmong, IsOfSite}
+use Rattle.site_core.specs.Stored.{cells_of, contents_in, is_named, place_of_rank, file_name, FilesStand, FileStands, RecordsStand, NoOtherRecords, IsAmong, IsOfSite}
 use Rattle.site_core.specs.Holds.{IsOfDataset}
 use Rattle.site_core.specs.Left.{LeavesWhole, IsNoneOf, LeavesCache, LeavesKept}
 use Rattle.site_core.proofs.Frames.{is_place, place_named}
-use Rattle.site_core.proofs.Puts.{few_nodes, few_rows, row_rank, row_named, node_below, place_is}
+use Rattle.site_core.proofs.Puts.{few_nodes, few_rows, row_rank, row_named, place_is}
 use Rattle.site_core.proofs.Losses.{not_of_other, file_of}
 use Rattle.site_core.proofs.LeftFiles.{gate_opens, home_or_not}
 

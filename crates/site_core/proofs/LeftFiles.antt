@@ -1,6 +1,6 @@
 -- What a stop may leave of files, across the calls of the moves.
-use Rattle.std.proofs.Common.{◌≡◌, ◌≢◌, ◌⊎◌, inl, inr, ℕ, ◌<◌, ◌≤◌, ◌==◌, ◌^◌, Bool, true, false, List, length, Option, Some, None, refl, sym, ap, ◌∙◌, subst, slice_get, arith}
-use Rattle.std.specs.Prelude.{is_some, nat_lt}
+use Rattle.std.proofs.Common.{◌≡◌, ◌≢◌, ◌⊎◌, inl, inr, ℕ, ◌<◌, ◌==◌, true, false, List, Option, Some, None, refl, sym, ap, subst, slice_get, arith}
+use Rattle.std.specs.Prelude.{is_some}
 use Rattle.std.proofs.lemmas.Bool.{cases_eq}
 use Rattle.std.proofs.lemmas.Bool.Decides.{nat_tests}
 use Rattle.scr_base.specs.declared.shape.DataId.{DataId}
@@ -11,13 +11,13 @@ use Rattle.gated_record.specs.Record.{HasBody, IsOpen, is_open, open_gate_byte}
 use Rattle.gate_outcomes.specs.Leaves.{HasByte}
 use Rattle.gate_outcomes.specs.Gates.{StaysShut, StaysWhole}
 use Rattle.gate_outcomes.proofs.Stays.{synced_shut, removed_shut, rest_shut, torn_body, torn_open}
-use Rattle.member_store.specs.Names.{record_name, IsPlace}
+use Rattle.member_store.specs.Names.{record_name}
 use Rattle.member_store.specs.Calls.{RemovesAtMost, RemovesFile}
 use Rattle.site_core.specs.declared.cache.Manifest.{Manifest}
 use Rattle.site_core.specs.declared.core_state.Core.{Core}
 use Rattle.site_core.specs.declared.core_state.Work.{Work}
 use Rattle.site_core.specs.Calls.{Synced, KeptAlike}
-use Rattle.site_core.specs.Stored.{cells_of, FilesHold, IsKnown}
+use Rattle.site_core.specs.Stored.{cells_of, FilesHold}
 use Rattle.site_core.specs.Left.{LeavesSaved, NoneSealed}
 use Rattle.site_core.proofs.RefusedCalls.{same_partly}
 use Rattle.site_core.proofs.Losses.{is_or_not}

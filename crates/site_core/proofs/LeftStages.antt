@@ -1,31 +1,26 @@
 -- What a stop leaves of the datasets in cache, at each stage of a run.
 use Rattle.std.proofs.Common.{◌≡◌, ◌≢◌, ◌⊎◌, inl, inr, ℕ, zero, suc, ◌/◌, ◌<◌, ◌≤◌, ◌^◌, Bool, true, false, List, [], ◌∷◌, map, Option, Some, None, refl, sym, ap, ◌∙◌, subst, slice_get, arith}
-use Rattle.std.specs.Prelude.{IsTrue, fold, option_map, slice_index}
+use Rattle.std.specs.Prelude.{IsTrue, fold, option_map}
 use Rattle.std.specs.List.{list_any}
 use Rattle.scr_base.specs.Sets.{numbers_below}
 use Rattle.scr_base.specs.declared.content.Step.{Step}
-use Rattle.scr_base.specs.declared.shape.DataId.{DataId}
 use Rattle.scr_base.specs.declared.shape.Shape.{Shape}
 use Rattle.node_device.specs.File.{File, IsAtRest, IsPartlySynced, MayLeave, byte_at}
 use Rattle.node_device.specs.DeviceState.{DeviceState}
 use Rattle.node_device.specs.Outcomes.{rest_leaves, true_or_false}
 use Rattle.node_device.specs.Rack.{OnlyAt}
 use Rattle.gated_record.specs.Record.{IsOpen}
-use Rattle.gate_outcomes.specs.Leaves.{Leaves}
 use Rattle.filemap.specs.Maps.{rows_of}
-use Rattle.filemap.specs.declared.rows.FileRow.{FileRow}
 use Rattle.member_store.specs.Names.{record_name, IsPlace, IsNameOf}
 use Rattle.member_store.specs.Members.{member_body}
 use Rattle.ckpt_model.specs.declared.event.Event.{Event}
 use Rattle.ckpt_model.specs.declared.event.StopCause.{StopCause}
 use Rattle.ckpt_model.specs.declared.event.StopCause.TheVariants as cause
-use Rattle.ckpt_model.specs.declared.event.Event.TheVariants as event
 use Rattle.ckpt_model.specs.Moves.{after}
 use Rattle.ckpt_model.specs.Stops.{may_make}
-use Rattle.ckpt_model.specs.Machine.{Machine, Setup, Kept}
+use Rattle.ckpt_model.specs.Machine.{Machine, Setup}
 use Rattle.site_core.specs.declared.cache.Cached.{Cached}
 use Rattle.site_core.specs.declared.cache.Manifest.{Manifest}
-use Rattle.site_core.specs.declared.cache.Mark.TheVariants as mark
 use Rattle.site_core.specs.declared.core_state.Core.{Core}
 use Rattle.site_core.specs.declared.core_state.Stage.{Stage}
 use Rattle.site_core.specs.declared.core_state.Stage.TheVariants as stage
@@ -33,11 +28,11 @@ use Rattle.site_core.specs.declared.core_state.Work.{Work}
 use Rattle.site_core.specs.declared.core_state.Work.TheVariants as work
 use Rattle.site_core.specs.Calls.{KeptAlike, Unturned}
 use Rattle.site_core.specs.Choosing.{is_being_sealed, seals}
-use Rattle.site_core.specs.Shown.{Contents, running, setup_of, kept_of}
+use Rattle.site_core.specs.Shown.{running, setup_of, kept_of}
 use Rattle.site_core.specs.Waiting.{is_over}
 use Rattle.site_core.specs.Stored.{Cells, cells_of, contents_of, contents_in, file_name, place_of_rank, FilesStand, FileStands, RecordsStand, NoOtherRecords, IsAmong, IsKnown, IsWell, IsOfSite, FilesHold, RecordIs}
 use Rattle.site_core.specs.Left.{LeavesSaved, LeavesWhole, LeavesCache, LeavesKept, is_sealing_work, is_filling_at}
-use Rattle.site_core.specs.Holds.{IsOneOf, settled_set, HoldsAt, IsUp, IsSaved, IsSaving, IsPending, IsFileOf, IsOfDataset, IsLeavingAt, WorkIs, NoRecordYet, is_whole_at, is_sealed_at}
+use Rattle.site_core.specs.Holds.{IsOneOf, settled_set, HoldsAt, IsSaved, IsSaving, IsPending, IsFileOf, IsOfDataset, IsLeavingAt, WorkIs, NoRecordYet, is_whole_at, is_sealed_at}
 use Rattle.site_core.proofs.Frames.{is_place, file_no_record, div_small, place_named}
 use Rattle.site_core.proofs.Puts.{few_nodes, few_rows, row_rank, row_named, node_below, place_is, kept_other}
 use Rattle.site_core.proofs.Losses.{file_of}
@@ -47,7 +42,7 @@ use Rattle.gate_outcomes.proofs.Stays.{torn_shut}
 use Rattle.site_core.proofs.Saving.{LeavesRecord, place_of_node, put_leaves}
 use Rattle.site_core.proofs.SaveEnds.{none-passes}
 use Rattle.site_core.proofs.LeftFiles.{alike_partly, has_byte, turned_whole}
-use Rattle.site_core.proofs.LeftCaches.{CacheFacts, cache_left, kept_on, low_place, home_is}
+use Rattle.site_core.proofs.LeftCaches.{cache_left, kept_on, low_place, home_is}
 
 -- what is known of the datasets in cache, and of the places
 pub record IsLeft (c : Core) (states : ℕ → DeviceState) (m : Machine) : Type 0 where

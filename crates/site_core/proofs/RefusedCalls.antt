@@ -9,7 +9,6 @@ use Rattle.node_device.specs.declared.device.DevError.{DevError}
 use Rattle.node_device.specs.declared.device.DevError.TheVariants as device
 use Rattle.node_device.specs.Outcomes.{rest_leaves}
 use Rattle.member_store.specs.Calls.{Drops}
-use Rattle.gated_record.specs.Record.{HasShutGates}
 use Rattle.gated_record.specs.Calls.{WritesBody, TurnsGate}
 use Rattle.site_core.specs.Calls.{Refused, Unrecorded, Unturned, KeptAlike, FileDropped}
 use Rattle.site_core.specs.Removals.{Leaving}
