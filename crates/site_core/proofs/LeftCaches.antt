@@ -201,6 +201,8 @@ module _ (s : Setup) (places : List ℕ) (states after : ℕ → DeviceState) (m
   kept_on l = record {
     sets = l.sets;
     kept = l.kept ∙ ap (λ (bytes : Contents). map (kept_of s bytes places) l.sets) (sym contents_on);
+    places_are = l.places_are;
+    of_site = l.of_site;
     cache = record {
       whole = λ i x at. whole_on x.manifest (l.cache.whole i x at);
       sealed = λ i x at sure node p home. synced_open ((states p).file (record_name x.manifest.desc.which node)) ((after p).file (record_name x.manifest.desc.which node)) 1 (partly p (record_name x.manifest.desc.which node) (home_low node p home)) (l.cache.sealed i x at sure node p home);

@@ -44,10 +44,9 @@ use Rattle.site_core.proofs.SaveEnds.{none-passes}
 use Rattle.site_core.proofs.LeftFiles.{alike_partly, has_byte, turned_whole}
 use Rattle.site_core.proofs.LeftCaches.{cache_left, kept_on, low_place, home_is}
 
--- what is known of the datasets in cache, and of the places
-pub record IsLeft (c : Core) (states : ℕ → DeviceState) (m : Machine) : Type 0 where
-  pub places : c.places ≡ numbers_below c.shape.nodes
-  pub leaves : LeavesKept (setup_of c) c.places states m
+-- what is known of the datasets in cache
+abbrev pub IsLeft : Core → (ℕ → DeviceState) → Machine → Type 0
+IsLeft c states m = LeavesKept (setup_of c) c.places states m
 
 -- What is known of the datasets in cache where this state is stopped so: perhaps with a change that a refused call made.
 pub record Remains (c : Core) (states : ℕ → DeviceState) (m : Machine) (why : StopCause) : Type 0 where
@@ -65,7 +64,7 @@ nothing_made s m cause.Command = refl
 
 -- with none
 pub remains : (c : Core) (states : ℕ → DeviceState) (m : Machine) (why : StopCause) → IsLeft c states m → Remains c states m why
-remains c states m why l = record { made = []; may = nothing_made (setup_of c) m why; leaves = l.leaves }
+remains c states m why l = record { made = []; may = nothing_made (setup_of c) m why; leaves = l }
 
 some_same : {X : Type 0} (x y : X) → Some x ≡ Some y → x ≡ y
 some_same x y e = cc
@@ -242,31 +241,30 @@ module _ (w : Work) (n : ℕ) (c : Core) (m : Manifest) (states : ℕ → Device
     off_home p node low place off = not_left ((states p).file (record_name m.desc.which node)) (h.leaves.elsewhere p node low place off) (h.files.others p m.desc.which node low place (λ y is same home. off home))
 
   pub loose_left : IsLeft c states (running (contents_of (cells_of states) c) c)
-  loose_left = record { places = h.well.places; leaves = record { sets = c.kept; kept = refl; cache = saving_cache } }
+  loose_left = record { sets = c.kept; kept = refl; places_are = h.well.places; of_site = λ i x at. h.well.sets x.manifest (inr (i, x, at, refl)); cache = saving_cache }
 
 -- ## A dataset on its way out
 
 leaving_left : (gone settled : ℕ → Bool) (c : Core) (states : ℕ → DeviceState) (m : Machine) → IsLeavingAt gone settled c states m → IsLeft c states m
 leaving_left gone settled c states m h = record {
-  places = h.well.places;
-  leaves = record {
-    sets = c.kept;
-    kept = ap (λ (x : Machine). x.kept) h.is;
-    cache = cache_left c.shape c.run c.places states c.kept c.opened (Some h.set) (record {
-      places_are = h.well.places;
-      of_site = λ i x at. h.well.sets x.manifest (inr (i, x, at, refl));
-      files = λ i x at. h.files x.manifest (i, x, at, refl);
-      records = λ i x at calm. h.records i x at;
-      others = h.others;
-      quiet = λ p q low away. h.quiet p q (omega (arith, low)) (λ lt un of. away h.set refl of);
-      apart = λ i x at still y is. λ same. kept_other c h.set x.manifest h.well h.opened (i, x, at, refl) (same ∙ ap (λ (z : Manifest). z.desc.which) (sym (some_same h.set y is)));
-      sealing = λ i x at sealed. absurd (cc (none-passes seals c.kept i x h.sealed at, sealed));
-      opening = λ y is node p home. shut_of y (some_same h.set y (sym h.opened ∙ is)) p node (home_low c node p h.well.places home) (home_place c y node p h.well.places home);
-      known = λ y is no_open no_kept. no_open (h.opened ∙ is);
-      away = λ y is p node low at off. shut_of y (some_same h.set y is) p node low at;
-      sealing_away = λ i x at sealed. absurd (cc (none-passes seals c.kept i x h.sealed at, sealed));
-    });
-  };
+  sets = c.kept;
+  kept = ap (λ (x : Machine). x.kept) h.is;
+  places_are = h.well.places;
+  of_site = λ i x at. subst (λ (run : ℕ). IsOfSite c.shape run x.manifest) (ap (λ (y : Machine). y.run) (sym h.is)) (h.well.sets x.manifest (inr (i, x, at, refl)));
+  cache = cache_left c.shape c.run c.places states c.kept c.opened (Some h.set) (record {
+    places_are = h.well.places;
+    of_site = λ i x at. h.well.sets x.manifest (inr (i, x, at, refl));
+    files = λ i x at. h.files x.manifest (i, x, at, refl);
+    records = λ i x at calm. h.records i x at;
+    others = h.others;
+    quiet = λ p q low away. h.quiet p q (omega (arith, low)) (λ lt un of. away h.set refl of);
+    apart = λ i x at still y is. λ same. kept_other c h.set x.manifest h.well h.opened (i, x, at, refl) (same ∙ ap (λ (z : Manifest). z.desc.which) (sym (some_same h.set y is)));
+    sealing = λ i x at sealed. absurd (cc (none-passes seals c.kept i x h.sealed at, sealed));
+    opening = λ y is node p home. shut_of y (some_same h.set y (sym h.opened ∙ is)) p node (home_low c node p h.well.places home) (home_place c y node p h.well.places home);
+    known = λ y is no_open no_kept. no_open (h.opened ∙ is);
+    away = λ y is p node low at off. shut_of y (some_same h.set y is) p node low at;
+    sealing_away = λ i x at sealed. absurd (cc (none-passes seals c.kept i x h.sealed at, sealed));
+  });
 } where
   shut_of : (y : Manifest) → h.set ≡ y → (p node : ℕ) → p < 32 → IsPlace y.desc.which node → (o : Option (List ℕ)) → MayLeave ((states p).file (record_name y.desc.which node)) o → IsOpen o 1 → ⊥
   shut_of y same p node low = subst (λ (z : Manifest). IsPlace z.desc.which node → (o : Option (List ℕ)) → MayLeave ((states p).file (record_name z.desc.which node)) o → IsOpen o 1 → ⊥) same (λ at. (h.unsealed p node low at).shut)
@@ -275,56 +273,51 @@ leaving_left gone settled c states m h = record {
 
 pub stage_left : (s : Stage) (c : Core) (states : ℕ → DeviceState) (m : Machine) → c.stage ≡ s → is_over s ≡ false → HoldsAt s c states m → IsLeft c states m
 stage_left stage.Begun c states m at on h = record {
-  places = h.fresh.places;
-  leaves = record {
-    sets = map settled_set h.stands.sets;
-    kept = subst (λ (ps : List ℕ). m.kept ≡ map (kept_of (setup_of c) (contents_in (cells_of states) ps c.shape.ranks) ps) (map settled_set h.stands.sets)) (sym h.fresh.places) h.stands.kept;
-    cache = early_left c.shape m.run c.places states h.stands.sets h.fresh.places h.stands.store.sets_are
-        (λ x is. subst (λ (ps : List ℕ). FilesStand (cells_of states) ps c.shape.ranks x) (sym h.fresh.places) (h.stands.store.files x is))
-        (λ x is. subst (λ (ps : List ℕ). RecordsStand (cells_of states) ps x) (sym h.fresh.places) (h.stands.store.records x is))
-        (subst (λ (ps : List ℕ). NoOtherRecords (IsOneOf h.stands.sets) (cells_of states) ps) (sym h.fresh.places) h.stands.store.others)
-        (λ p q low. h.stands.quiet p q (omega (arith, low)));
-  };
+  sets = map settled_set h.stands.sets;
+  kept = subst (λ (ps : List ℕ). m.kept ≡ map (kept_of (setup_of c) (contents_in (cells_of states) ps c.shape.ranks) ps) (map settled_set h.stands.sets)) (sym h.fresh.places) h.stands.kept;
+  places_are = h.fresh.places;
+  of_site = λ i x at. let y = set_at h.stands.sets i x at in subst (λ (z : Cached). IsOfSite c.shape m.run z.manifest) y.is (h.stands.store.sets_are y.set (i, y.at));
+  cache = early_left c.shape m.run c.places states h.stands.sets h.fresh.places h.stands.store.sets_are
+      (λ x is. subst (λ (ps : List ℕ). FilesStand (cells_of states) ps c.shape.ranks x) (sym h.fresh.places) (h.stands.store.files x is))
+      (λ x is. subst (λ (ps : List ℕ). RecordsStand (cells_of states) ps x) (sym h.fresh.places) (h.stands.store.records x is))
+      (subst (λ (ps : List ℕ). NoOtherRecords (IsOneOf h.stands.sets) (cells_of states) ps) (sym h.fresh.places) h.stands.store.others)
+      (λ p q low. h.stands.quiet p q (omega (arith, low)));
 }
 stage_left stage.Storing c states m at on h = record {
-  places = h.fresh.places;
-  leaves = record {
-    sets = map settled_set h.sets;
-    kept = h.kept;
-    cache = early_left c.shape m.run c.places states h.sets h.fresh.places h.sets_are h.files h.records h.others (λ p q low. h.quiet p q (omega (arith, low)) (λ is. absurd (omega (arith, is, low))));
-  };
+  sets = map settled_set h.sets;
+  kept = h.kept;
+  places_are = h.fresh.places;
+  of_site = λ i x at. let y = set_at h.sets i x at in subst (λ (z : Cached). IsOfSite c.shape m.run z.manifest) y.is (h.sets_are y.set (i, y.at));
+  cache = early_left c.shape m.run c.places states h.sets h.fresh.places h.sets_are h.files h.records h.others (λ p q low. h.quiet p q (omega (arith, low)) (λ is. absurd (omega (arith, is, low))));
 }
 stage_left stage.Looking c states m at on h = record {
-  places = h.fresh.places;
-  leaves = record {
-    sets = map settled_set h.sets;
-    kept = ap (λ (x : Machine). x.kept) h.is;
-    cache = early_left c.shape c.run c.places states h.sets h.fresh.places h.store.sets_are
-        (λ x is. subst (λ (ps : List ℕ). FilesStand (cells_of states) ps c.shape.ranks x) (sym h.fresh.places) (h.store.files x is))
-        (λ x is. subst (λ (ps : List ℕ). RecordsStand (cells_of states) ps x) (sym h.fresh.places) (h.store.records x is))
-        (subst (λ (ps : List ℕ). NoOtherRecords (IsOneOf h.sets) (cells_of states) ps) (sym h.fresh.places) h.store.others)
-        (λ p q low. h.quiet p q (omega (arith, low)));
-  };
+  sets = map settled_set h.sets;
+  kept = ap (λ (x : Machine). x.kept) h.is;
+  places_are = h.fresh.places;
+  of_site = λ i x at. let y = set_at h.sets i x at in subst (λ (run : ℕ). IsOfSite c.shape run x.manifest) (ap (λ (z : Machine). z.run) (sym h.is)) (subst (λ (z : Cached). IsOfSite c.shape c.run z.manifest) y.is (h.store.sets_are y.set (i, y.at)));
+  cache = early_left c.shape c.run c.places states h.sets h.fresh.places h.store.sets_are
+      (λ x is. subst (λ (ps : List ℕ). FilesStand (cells_of states) ps c.shape.ranks x) (sym h.fresh.places) (h.store.files x is))
+      (λ x is. subst (λ (ps : List ℕ). RecordsStand (cells_of states) ps x) (sym h.fresh.places) (h.store.records x is))
+      (subst (λ (ps : List ℕ). NoOtherRecords (IsOneOf h.sets) (cells_of states) ps) (sym h.fresh.places) h.store.others)
+      (λ p q low. h.quiet p q (omega (arith, low)));
 }
 stage_left stage.Mending c states m at on h =
     let working : WorkIs stage.Mending c states = subst (λ (s : Stage). WorkIs s c states) at h.working in
     record {
-      places = h.well.places;
-      leaves = record {
-        sets = c.kept;
-        kept = ap (λ (x : Machine). x.kept) h.is;
-        cache = serving_left c states h.well h.files (subst (λ (s : Stage). (p : ℕ) (q : List ℕ) → p ≤ 32 → (p < c.shape.nodes → IsPending s c q → ⊥) → IsAtRest ((states p).file q)) at h.quiet) (subst (λ (s : Stage). NoRecordYet s c (cells_of states)) at h.unrecorded) working.1;
-      };
+      sets = c.kept;
+      kept = ap (λ (x : Machine). x.kept) h.is;
+      places_are = h.well.places;
+      of_site = λ i x there. subst (λ (run : ℕ). IsOfSite c.shape run x.manifest) (ap (λ (y : Machine). y.run) (sym h.is)) (h.well.sets x.manifest (inr (i, x, there, refl)));
+      cache = serving_left c states h.well h.files (subst (λ (s : Stage). (p : ℕ) (q : List ℕ) → p ≤ 32 → (p < c.shape.nodes → IsPending s c q → ⊥) → IsAtRest ((states p).file q)) at h.quiet) (subst (λ (s : Stage). NoRecordYet s c (cells_of states)) at h.unrecorded) working.1;
     }
 stage_left stage.Serving c states m at on h =
     let working : WorkIs stage.Serving c states = subst (λ (s : Stage). WorkIs s c states) at h.working in
     record {
-      places = h.well.places;
-      leaves = record {
-        sets = c.kept;
-        kept = ap (λ (x : Machine). x.kept) h.is;
-        cache = serving_left c states h.well h.files (subst (λ (s : Stage). (p : ℕ) (q : List ℕ) → p ≤ 32 → (p < c.shape.nodes → IsPending s c q → ⊥) → IsAtRest ((states p).file q)) at h.quiet) (subst (λ (s : Stage). NoRecordYet s c (cells_of states)) at h.unrecorded) working.1;
-      };
+      sets = c.kept;
+      kept = ap (λ (x : Machine). x.kept) h.is;
+      places_are = h.well.places;
+      of_site = λ i x there. subst (λ (run : ℕ). IsOfSite c.shape run x.manifest) (ap (λ (y : Machine). y.run) (sym h.is)) (h.well.sets x.manifest (inr (i, x, there, refl)));
+      cache = serving_left c states h.well h.files (subst (λ (s : Stage). (p : ℕ) (q : List ℕ) → p ≤ 32 → (p < c.shape.nodes → IsPending s c q → ⊥) → IsAtRest ((states p).file q)) at h.quiet) (subst (λ (s : Stage). NoRecordYet s c (cells_of states)) at h.unrecorded) working.1;
     }
 stage_left (stage.Saving w n) c states m at on h =
     let working : WorkIs (stage.Saving w n) c states = subst (λ (s : Stage). WorkIs s c states) at h.working in
@@ -349,7 +342,7 @@ stage_left stage.Cut c states m at on h = absurd (cc on)
 
 -- what reads give is the same, and a stop leaves no more
 pub left_on : (c : Core) (states after : ℕ → DeviceState) (m : Machine) → ((p : ℕ) (q : List ℕ) → p < 32 → IsPartlySynced ((states p).file q) ((after p).file q)) → ((p : ℕ) (q : List ℕ) → p < 32 → cells_of after p q ≡ cells_of states p q) → IsLeft c states m → IsLeft c after m
-left_on c states after m partly same l = record { places = l.places; leaves = kept_on (setup_of c) c.places states after m (λ k. low_place c.shape c.places k l.places) partly same l.leaves }
+left_on c states after m partly same l = kept_on (setup_of c) c.places states after m (λ k. low_place c.shape c.places k l.places_are) partly same l
 
 -- the nodes are as they were
 pub left_apart : (c : Core) (states after : ℕ → DeviceState) (m : Machine) → ((p : ℕ) → p ≢ 32 → after p ≡ states p) → IsLeft c states m → IsLeft c after m

@@ -187,7 +187,7 @@ module _ {D : Type 0} (state : D → DeviceState) (old : Site D) (n place : ℕ)
       record {
         made = e ∷ [];
         may = may_seal_first t fault step.0;
-        leaves = subst (λ (y : Machine). LeavesKept (setup_of c) c.places (states_of state bay) y) step.1 l.leaves;
+        leaves = subst (λ (y : Machine). LeavesKept (setup_of c) c.places (states_of state bay) y) step.1 l;
       } where
         may_seal_first : (t : Trouble) → is_device_fault t ≡ true → IsTrue (may (setup_of old.core) before (event.Sealing m.desc.which)) → IsTrue (may_make (setup_of old.core) before (cause_of t) (event.Sealing m.desc.which ∷ []))
         may_seal_first error.Memory f is = absurd (cc f)

@@ -1,5 +1,6 @@
 -- What a stop may leave of the datasets of a run.
 use Rattle.std.specs.Prelude.{◌≡◌, ◌≢◌, ◌<◌, ℕ, Bool, true, false, nat_le, List, map, Option, Some, None, slice_get}
+use Rattle.scr_base.specs.Sets.{numbers_below}
 use Rattle.scr_base.specs.declared.shape.DataId.{DataId}
 use Rattle.node_device.specs.File.{IsAtRest}
 use Rattle.node_device.specs.DeviceState.{DeviceState}
@@ -16,7 +17,7 @@ use Rattle.site_core.specs.declared.cache.Manifest.{Manifest}
 use Rattle.site_core.specs.declared.core_state.Work.{Work}
 use Rattle.site_core.specs.declared.core_state.Work.TheVariants as work
 use Rattle.site_core.specs.Shown.{kept_of, is_doubtful}
-use Rattle.site_core.specs.Stored.{cells_of, contents_in, place_of_rank, file_name, FileStands}
+use Rattle.site_core.specs.Stored.{cells_of, contents_in, place_of_rank, file_name, FileStands, IsOfSite}
 
 -- ## A dataset that is being saved
 
@@ -68,4 +69,6 @@ pub record LeavesCache (places : List ℕ) (ranks : ℕ) (states : ℕ → Devic
 pub record LeavesKept (s : Setup) (places : List ℕ) (states : ℕ → DeviceState) (m : Machine) : Type 0 where
   pub sets : List Cached
   pub kept : m.kept ≡ map (kept_of s (contents_in (cells_of states) places s.shape.ranks) places) sets
+  pub places_are : places ≡ numbers_below s.shape.nodes
+  pub of_site : (i : ℕ) (x : Cached) → slice_get sets i ≡ Some x → IsOfSite s.shape m.run x.manifest
   pub cache : LeavesCache places s.shape.ranks states sets

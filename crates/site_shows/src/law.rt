@@ -1,10 +1,12 @@
-ghost use Rattle.std.specs.Prelude.{◌≤◌, ℕ, List};
+ghost use Rattle.std.specs.Prelude.{◌≤◌, ◌<◌, ℕ, List, [], false};
 ghost use Rattle.ckpt_model.specs.Machine.{Machine, Setup, empty_machine};
 ghost use Rattle.ckpt_model.specs.Proper.{IsProper};
-ghost use Rattle.ckpt_model.specs.Shows.{Shows};
-ghost use Rattle.node_device.specs.File.{IsEmpty};
+ghost use Rattle.ckpt_model.specs.Shows.{Shows, ShowsMembers};
+ghost use Rattle.ckpt_model.specs.Stops.{after_stop};
+ghost use Rattle.ckpt_model.specs.declared.event.Event.{Event};
+ghost use Rattle.node_device.specs.File.{IsEmpty, MayLeave};
 ghost use Rattle.node_device.specs.DeviceState.{DeviceState};
-ghost use Rattle.site_core.specs.Holds.{StandsFor};
+ghost use Rattle.site_core.specs.Holds.{StandsFor, HasLeft};
 ghost use Rattle.site_shows.specs.Fits.{IsFit};
 ghost use Rattle.site_shows.specs.View.{store_view};
 
@@ -17,6 +19,12 @@ pub fn stands_are_shown()
 /// What no file tells is no more than the machine asks: a proper state for which devices stand has it.
 pub fn proper_is_fit()
     ensures { (s : Setup) (states : ℕ → DeviceState) (m : Machine) → StandsFor s states m → IsProper s m → IsFit s m }
+{}
+
+/// Once a run was cut, whatever a stop of the nodes leaves shows the members of a state after that Stop: the one that the stop chooses which
+/// takes the change of a gate as made that the device refused, if there was one.
+pub fn what_a_stop_leaves_is_shown()
+    ensures { (s : Setup) (first : Machine) (places : List ℕ) (states after : ℕ → DeviceState) (events : List Event) (left : HasLeft s first places states events) → ((p : ℕ) (q : List ℕ) → p < 32 → MayLeave ((states p).file q) ((after p).file q).now) → ShowsMembers (store_view s.shape after) (after_stop s left.before (record { made = left.made; entries = []; took = false; stored = false })) }
 {}
 
 /// Devices that hold nothing stand for the state after no run.

@@ -3,4 +3,4 @@
 
 mod law;
 
-pub use law::{empty_devices_stand, proper_is_fit, stands_are_shown};
+pub use law::{empty_devices_stand, proper_is_fit, stands_are_shown, what_a_stop_leaves_is_shown};
