@@ -141,7 +141,7 @@ cut_short first c programs states events events' why m run may cut more told goe
     steps = subst (λ (es : List Event). AreOfPrograms programs es) (sym more) told.1;
     goes_on = goes;
   };
-  left = record { front = events; cause = why; is = more; before = m; run = run; made = left.made; may = both _ _ (both _ _ may left.may) refl; leaves = left.leaves };
+  left = record { front = events; cause = why; is = more; before = m; run = run; made = left.made; may = both _ _ may left.may; same_run = left.same_run; leaves = left.leaves; prefix = left.prefix; later = left.later; plain = left.plain };
 }
 
 -- ## Where a device may end a run

@@ -29,7 +29,7 @@ use Rattle.site_core.specs.Choosing.{is_being_sealed}
 use Rattle.site_core.specs.Shown.{Contents, kept_of, is_doubtful}
 use Rattle.site_core.specs.Stored.{cells_of, contents_in, is_named, place_of_rank, file_name, FilesStand, FileStands, RecordsStand, NoOtherRecords, IsAmong, IsOfSite}
 use Rattle.site_core.specs.Holds.{IsOfDataset}
-use Rattle.site_core.specs.Left.{LeavesWhole, IsNoneOf, LeavesCache, LeavesKept}
+use Rattle.site_core.specs.Left.{LeavesWhole, IsNoneOf, LeavesCache, LeavesKept, NoLater}
 use Rattle.site_core.proofs.Frames.{is_place, place_named}
 use Rattle.site_core.proofs.Puts.{few_nodes, few_rows, row_rank, row_named, place_is}
 use Rattle.site_core.proofs.Losses.{not_of_other, file_of}
@@ -89,6 +89,8 @@ pub record CacheFacts (shape : Shape) (run : ℕ) (places : List ℕ) (states : 
   pub known : (m : Manifest) → hand ≡ Some m → (opened ≡ Some m → ⊥) → (IsAmong sets m → ⊥) → ⊥
   pub away : (m : Manifest) → hand ≡ Some m → (p node : ℕ) → p < 32 → IsPlace m.desc.which node → (slice_get places node ≡ Some p → ⊥) → Leaves ((states p).file (record_name m.desc.which node)) (λ o. IsOpen o 1 → ⊥)
   pub sealing_away : (i : ℕ) (x : Cached) → slice_get sets i ≡ Some x → is_being_sealed x.mark ≡ true → (p node : ℕ) → p < 32 → IsPlace x.manifest.desc.which node → (slice_get places node ≡ Some p → ⊥) → IsAtRest ((states p).file (record_name x.manifest.desc.which node))
+  pub hand_run : (m : Manifest) → hand ≡ Some m → m.desc.which.run ≤ run
+  pub open_run : (m : Manifest) → opened ≡ Some m → m.desc.which.run ≤ run
 
 not_doubtful : (m : Mark) → is_doubtful m ≡ false → is_being_sealed m ≡ false
 not_doubtful mark.Mending e = refl
@@ -163,6 +165,15 @@ module _ (shape : Shape) (run : ℕ) (places : List ℕ) (states : ℕ → Devic
     pick (inl sealed) = f.sealing_away i x at sealed p node low place off
     pick (inr calm) = f.quiet p (record_name x.manifest.desc.which node) low (calm_name x.manifest.desc.which node (record_name x.manifest.desc.which node) place (inl refl) (f.apart i x at calm))
 
+  -- of a later run there is nothing
+  pub none_later : NoLater states run
+  none_later p which node low at later o may = rest_leaves ((states p).file (record_name which node)) o
+      (f.quiet p (record_name which node) low (calm_name which node (record_name which node) at (inl refl) (λ m is same. absurd (omega (arith, later, f.hand_run m is, ap (λ (w : DataId). w.run) same))))) may
+      ∙ f.others p which node low at (λ m known same home. absurd (omega (arith, later, known_run m known, ap (λ (w : DataId). w.run) same))) where
+        known_run : (m : Manifest) → (opened ≡ Some m) ⊎ IsAmong sets m → m.desc.which.run ≤ run
+        known_run m (inl is) = f.open_run m is
+        known_run m (inr among) = subst (λ (y : Manifest). y.desc.which.run ≤ run) among.3 (f.of_site among.0 among.1 among.2).run_is
+
   pub cache_left : LeavesCache places shape.ranks states sets
   cache_left = record {
     whole = each_whole;
@@ -203,6 +214,8 @@ module _ (s : Setup) (places : List ℕ) (states after : ℕ → DeviceState) (m
     kept = l.kept ∙ ap (λ (bytes : Contents). map (kept_of s bytes places) l.sets) (sym contents_on);
     places_are = l.places_are;
     of_site = l.of_site;
+    rise = l.rise;
+    index = l.index;
     cache = record {
       whole = λ i x at. whole_on x.manifest (l.cache.whole i x at);
       sealed = λ i x at sure node p home. synced_open ((states p).file (record_name x.manifest.desc.which node)) ((after p).file (record_name x.manifest.desc.which node)) 1 (partly p (record_name x.manifest.desc.which node) (home_low node p home)) (l.cache.sealed i x at sure node p home);
@@ -210,3 +223,7 @@ module _ (s : Setup) (places : List ℕ) (states after : ℕ → DeviceState) (m
       others = λ p which node lw at none o may. l.cache.others p which node lw at none o ((partly p (record_name which node) lw).outcomes o may);
     };
   }
+
+-- still nothing of a later run
+pub later_on : (states after : ℕ → DeviceState) (run : ℕ) → ((p : ℕ) (q : List ℕ) → p < 32 → IsPartlySynced ((states p).file q) ((after p).file q)) → NoLater states run → NoLater after run
+later_on states after run partly none p which node low at later o may = none p which node low at later o ((partly p (record_name which node) low).outcomes o may)

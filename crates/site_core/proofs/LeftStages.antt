@@ -1,15 +1,22 @@
 -- What a stop leaves of the datasets in cache, at each stage of a run.
-use Rattle.std.proofs.Common.{◌≡◌, ◌≢◌, ◌⊎◌, inl, inr, ℕ, zero, suc, ◌/◌, ◌<◌, ◌≤◌, ◌^◌, Bool, true, false, List, [], ◌∷◌, map, Option, Some, None, refl, sym, ap, ◌∙◌, subst, slice_get, arith}
-use Rattle.std.specs.Prelude.{IsTrue, fold, option_map}
+use Rattle.std.proofs.Common.{◌+◌, ap₂, codes, ◌≡◌, ◌≢◌, ◌⊎◌, inl, inr, ℕ, zero, suc, ◌/◌, ◌<◌, ◌≤◌, ◌^◌, Bool, true, false, List, [], ◌∷◌, map, Option, Some, None, refl, sym, ap, ◌∙◌, subst, slice_get, arith}
+use Rattle.std.specs.Prelude.{nat_lt, IsTrue, fold, option_map}
 use Rattle.std.specs.List.{list_any}
+use Rattle.std.proofs.Math.Path.{fun_ext}
+use Rattle.std.proofs.lemmas.Bool.Decides.{nat_tests}
 use Rattle.scr_base.specs.Sets.{numbers_below}
 use Rattle.scr_base.specs.declared.content.Step.{Step}
 use Rattle.scr_base.specs.declared.shape.Shape.{Shape}
-use Rattle.node_device.specs.File.{File, IsAtRest, IsPartlySynced, MayLeave, byte_at}
+use Rattle.node_device.specs.File.{File, IsAtRest, MayLeave, byte_at}
 use Rattle.node_device.specs.DeviceState.{DeviceState}
 use Rattle.node_device.specs.Outcomes.{rest_leaves, true_or_false}
 use Rattle.node_device.specs.Rack.{OnlyAt}
 use Rattle.gated_record.specs.Record.{IsOpen}
+use Rattle.gated_record.specs.Pair.{pair_value, copy_name, newer, value_in}
+use Rattle.gated_record.specs.PairStages.{PairLeaves, IsOldOrWanted}
+use Rattle.gated_record.specs.declared.pair.PairValue.{PairValue}
+use Rattle.halt_file.specs.Stores.{halt_in}
+use Rattle.gate_outcomes.specs.Leaves.{Leaves}
 use Rattle.filemap.specs.Maps.{rows_of}
 use Rattle.member_store.specs.Names.{record_name, IsPlace, IsNameOf}
 use Rattle.member_store.specs.Members.{member_body}
@@ -17,8 +24,8 @@ use Rattle.ckpt_model.specs.declared.event.Event.{Event}
 use Rattle.ckpt_model.specs.declared.event.StopCause.{StopCause}
 use Rattle.ckpt_model.specs.declared.event.StopCause.TheVariants as cause
 use Rattle.ckpt_model.specs.Moves.{after}
-use Rattle.ckpt_model.specs.Stops.{may_make}
-use Rattle.ckpt_model.specs.Machine.{Machine, Setup}
+use Rattle.ckpt_model.specs.Stops.{may_make, may_store, pending_of}
+use Rattle.ckpt_model.specs.Machine.{Machine, Setup, Stage as Place}
 use Rattle.site_core.specs.declared.cache.Cached.{Cached}
 use Rattle.site_core.specs.declared.cache.Manifest.{Manifest}
 use Rattle.site_core.specs.declared.core_state.Core.{Core}
@@ -26,15 +33,17 @@ use Rattle.site_core.specs.declared.core_state.Stage.{Stage}
 use Rattle.site_core.specs.declared.core_state.Stage.TheVariants as stage
 use Rattle.site_core.specs.declared.core_state.Work.{Work}
 use Rattle.site_core.specs.declared.core_state.Work.TheVariants as work
-use Rattle.site_core.specs.Calls.{KeptAlike, Unturned}
+use Rattle.site_core.specs.Calls.{KeptAlike, Unturned, Unnumbered}
+use Rattle.site_core.specs.Numbers.{IsNumberFile}
 use Rattle.site_core.specs.Choosing.{is_being_sealed, seals}
 use Rattle.site_core.specs.Shown.{running, setup_of, kept_of}
 use Rattle.site_core.specs.Waiting.{is_over}
-use Rattle.site_core.specs.Stored.{Cells, cells_of, contents_of, contents_in, file_name, place_of_rank, FilesStand, FileStands, RecordsStand, NoOtherRecords, IsAmong, IsKnown, IsWell, IsOfSite, FilesHold, RecordIs}
-use Rattle.site_core.specs.Left.{LeavesSaved, LeavesWhole, LeavesCache, LeavesKept, is_sealing_work, is_filling_at}
-use Rattle.site_core.specs.Holds.{IsOneOf, settled_set, HoldsAt, IsSaved, IsSaving, IsPending, IsFileOf, IsOfDataset, IsLeavingAt, WorkIs, NoRecordYet, is_whole_at, is_sealed_at}
+use Rattle.site_core.specs.Stored.{Cells, cells_of, run_number, contents_of, contents_in, file_name, place_of_rank, FilesStand, FileStands, RecordsStand, NoOtherRecords, IsAmong, IsKnown, IsWell, IsOfSite, FilesHold, RecordIs}
+use Rattle.site_core.specs.Left.{LeavesSaved, LeavesWhole, LeavesKept, PrefixLeft, LeavesPrefix, NoLater, IsPlain, is_sealing_work, is_filling_at}
+use Rattle.site_core.specs.Holds.{IsOneOf, settled_set, HoldsAt, IsBegun, IsStoring, IsLooking, IsUp, IsSaved, IsSaving, IsPending, IsFileOf, IsOfDataset, IsLeavingAt, WorkIs, NoRecordYet, is_whole_at, is_sealed_at}
 use Rattle.site_core.proofs.Frames.{is_place, file_no_record, div_small, place_named}
 use Rattle.site_core.proofs.Puts.{few_nodes, few_rows, row_rank, row_named, node_below, place_is, kept_other}
+use Rattle.site_core.proofs.Halts.{no_run_file}
 use Rattle.site_core.proofs.Losses.{file_of}
 use Rattle.site_core.proofs.Refusals.{cells_alike, refused_rest}
 use Rattle.site_core.proofs.RefusedCalls.{same_partly}
@@ -42,17 +51,24 @@ use Rattle.gate_outcomes.proofs.Stays.{torn_shut}
 use Rattle.site_core.proofs.Saving.{LeavesRecord, place_of_node, put_leaves}
 use Rattle.site_core.proofs.SaveEnds.{none-passes}
 use Rattle.site_core.proofs.LeftFiles.{alike_partly, has_byte, turned_whole}
-use Rattle.site_core.proofs.LeftCaches.{cache_left, kept_on, low_place, home_is}
+use Rattle.site_core.proofs.LeftCaches.{CacheFacts, cache_left, none_later, kept_on, later_on, low_place, home_is}
 
--- what is known of the datasets in cache
-abbrev pub IsLeft : Core → (ℕ → DeviceState) → Machine → Type 0
-IsLeft c states m = LeavesKept (setup_of c) c.places states m
+-- what is known of the datasets in cache, and of the prefix
+pub record IsLeft (c : Core) (states : ℕ → DeviceState) (m : Machine) : Type 0 where
+  pub leaves : LeavesKept (setup_of c) c.places states m
+  pub prefix : LeavesPrefix (states 32) m
+  pub later : NoLater states m.run
+  pub plain : IsPlain m
 
 -- What is known of the datasets in cache where this state is stopped so: perhaps with a change that a refused call made.
 pub record Remains (c : Core) (states : ℕ → DeviceState) (m : Machine) (why : StopCause) : Type 0 where
   pub made : List Event
   pub may : IsTrue (may_make (setup_of c) m why made)
+  pub same_run : (fold (after (setup_of c)) m made).run ≡ m.run
   pub leaves : LeavesKept (setup_of c) c.places states (fold (after (setup_of c)) m made)
+  pub prefix : LeavesPrefix (states 32) m
+  pub later : NoLater states m.run
+  pub plain : IsPlain m
 
 nothing_made : (s : Setup) (m : Machine) (why : StopCause) → IsTrue (may_make s m why [])
 nothing_made s m (cause.Device node count) = refl
@@ -64,13 +80,53 @@ nothing_made s m cause.Command = refl
 
 -- with none
 pub remains : (c : Core) (states : ℕ → DeviceState) (m : Machine) (why : StopCause) → IsLeft c states m → Remains c states m why
-remains c states m why l = record { made = []; may = nothing_made (setup_of c) m why; leaves = l }
+remains c states m why l = record { made = []; may = nothing_made (setup_of c) m why; same_run = refl; leaves = l.leaves; prefix = l.prefix; later = l.later; plain = l.plain }
 
 some_same : {X : Type 0} (x y : X) → Some x ≡ Some y → x ≡ y
 some_same x y e = cc
 
 not_left : (f : File) → IsAtRest f → f.now ≡ None → (o : Option (List ℕ)) → MayLeave f o → IsOpen o 1 → ⊥
 not_left f rest none o may opens = absurd (omega (arith, opens, ap (λ (x : Option (List ℕ)). byte_at x 1) (rest_leaves f o rest may ∙ none)))
+
+-- ## The prefix
+
+no_node : (shape : Shape) → 32 < shape.nodes → ⊥
+no_node shape lt = absurd (omega (arith, lt, few_nodes shape))
+
+-- the conditions stand under no name of the run's number
+no_number_file : (k : ℕ) → IsNumberFile (copy_name (codes "halt") k) → ⊥
+no_number_file k (inl is) = no_run_file k 0 is
+no_number_file k (inr is) = no_run_file k 1 is
+
+-- a prefix at rest is left as it reads
+rest_prefix : (d : DeviceState) (m : Machine) → ((q : List ℕ) → IsAtRest (d.file q)) → run_number (pair_value (codes "run") (λ q. (d.file q).now)) ≡ m.run → halt_in (pair_value (codes "halt") (λ q. (d.file q).now)) ≡ m.halt → LeavesPrefix d m
+rest_prefix d m rest run halt left out =
+    let same : left ≡ (λ q. (d.file q).now) = fun_ext (λ q. rest_leaves (d.file q) (left q) (rest q) (out q)) in
+    record {
+      stored = false;
+      may = refl;
+      run = ap (λ (files : List ℕ → Option (List ℕ)). run_number (pair_value (codes "run") files)) same ∙ run;
+      halt = ap (λ (files : List ℕ → Option (List ℕ)). halt_in (pair_value (codes "halt") files)) same ∙ halt;
+    }
+
+may_be_stored : (m : Machine) → m.stage ≡ Place.Between → m.run + 1 < 2 ^ 32 → IsTrue (may_store m true)
+may_be_stored m at lt = rw (at, below m.run lt) refl where
+  below : (n : ℕ) → n + 1 < 2 ^ 32 → nat_lt n 4294967295 ≡ true
+  below n lt = grind (arith, nat_tests, lt)
+
+-- while the run's number is on its way, the old one stands or the next
+module _ (c : Core) (states : ℕ → DeviceState) (m : Machine) (h : IsStoring c states m) (prefix : DeviceState) (run : PairLeaves (codes "run") prefix (IsOldOrWanted h.old c.storing.want))
+    (halt : (k : ℕ) → k < 2 → Leaves (prefix.file (copy_name (codes "halt") k)) (λ o. o ≡ cells_of states 32 (copy_name (codes "halt") k))) where
+  storing_prefix : LeavesPrefix prefix m
+  storing_prefix left out = pick (run (left (copy_name (codes "run") 0)) (left (copy_name (codes "run") 1)) (out (copy_name (codes "run") 0)) (out (copy_name (codes "run") 1))) where
+    halt_is : halt_in (pair_value (codes "halt") left) ≡ m.halt
+    halt_is = ap halt_in (ap₂ newer
+        (ap (value_in 0) (halt 0 (omega arith) (left (copy_name (codes "halt") 0)) (out (copy_name (codes "halt") 0))))
+        (ap (value_in 1) (halt 1 (omega arith) (left (copy_name (codes "halt") 1)) (out (copy_name (codes "halt") 1))))) ∙ h.halted ∙ sym h.halt
+
+    pick : IsOldOrWanted h.old c.storing.want (pair_value (codes "run") left) → PrefixLeft m left
+    pick (inl old) = record { stored = false; may = refl; run = ap run_number old ∙ h.old_is; halt = halt_is }
+    pick (inr new) = record { stored = true; may = may_be_stored m h.between (omega (arith, h.run, h.fits)); run = ap run_number new ∙ ap (λ (v : PairValue). v.version) h.want ∙ h.run; halt = halt_is }
 
 -- ## Before recovery has looked
 
@@ -90,10 +146,10 @@ set_there [] i y at = absurd (cc at)
 set_there (z ∷ zs) zero y at = ap (λ (o : Option Manifest). option_map settled_set o) at
 set_there (z ∷ zs) (suc i) y at = set_there zs i y at
 
-early_left : (shape : Shape) (run : ℕ) (places : List ℕ) (states : ℕ → DeviceState) (sets : List Manifest) → places ≡ numbers_below shape.nodes → ((x : Manifest) → IsOneOf sets x → IsOfSite shape run x)
+early_facts : (shape : Shape) (run : ℕ) (places : List ℕ) (states : ℕ → DeviceState) (sets : List Manifest) → places ≡ numbers_below shape.nodes → ((x : Manifest) → IsOneOf sets x → IsOfSite shape run x)
     → ((x : Manifest) → IsOneOf sets x → FilesStand (cells_of states) places shape.ranks x) → ((x : Manifest) → IsOneOf sets x → RecordsStand (cells_of states) places x) → NoOtherRecords (IsOneOf sets) (cells_of states) places
-    → ((p : ℕ) (q : List ℕ) → p < 32 → IsAtRest ((states p).file q)) → LeavesCache places shape.ranks states (map settled_set sets)
-early_left shape run places states sets are of_site files records others quiet = cache_left shape run places states (map settled_set sets) None None (record {
+    → ((p : ℕ) (q : List ℕ) → p < 32 → IsAtRest ((states p).file q)) → CacheFacts shape run places states (map settled_set sets) None None
+early_facts shape run places states sets are of_site files records others quiet = record {
   places_are = are;
   of_site = λ i x at. let s = set_at sets i x at in subst (λ (y : Cached). IsOfSite shape run y.manifest) s.is (of_site s.set (i, s.at));
   files = λ i x at. let s = set_at sets i x at in subst (λ (y : Cached). FilesStand (cells_of states) places shape.ranks y.manifest) s.is (files s.set (i, s.at));
@@ -106,7 +162,9 @@ early_left shape run places states sets are of_site files records others quiet =
   known = λ m e. absurd (cc e);
   away = λ m e. absurd (cc e);
   sealing_away = λ i x at sealed. let s = set_at sets i x at in absurd (cc (ap (λ (y : Cached). is_being_sealed y.mark) s.is, sealed));
-})
+  hand_run = λ m e. absurd (cc e);
+  open_run = λ m e. absurd (cc e);
+}
 
 -- ## A run that is up
 
@@ -132,8 +190,8 @@ module _ (c : Core) (states : ℕ → DeviceState) (well : IsWell c) (files : Fi
   unsealed m is p node low at = not_left ((states p).file (record_name m.desc.which node))
       (quiet p (record_name m.desc.which node) (omega (arith, low)) (λ lt pending. no_record_file c m pending.0 node at pending.2)) (none m is p node low at)
 
-  serving_left : LeavesCache c.places c.shape.ranks states c.kept
-  serving_left = cache_left c.shape c.run c.places states c.kept c.opened c.opened (record {
+  serving_facts : CacheFacts c.shape c.run c.places states c.kept c.opened c.opened
+  serving_facts = record {
     places_are = well.places;
     of_site = λ i x at. well.sets x.manifest (inr (i, x, at, refl));
     files = λ i x at. files.files x.manifest (inr (i, x, at, refl));
@@ -146,7 +204,9 @@ module _ (c : Core) (states : ℕ → DeviceState) (well : IsWell c) (files : Fi
     known = λ m is no_open no_kept. no_open is;
     away = λ m is p node low at off. unsealed m is p node low at;
     sealing_away = λ i x at sealed. absurd (cc (none-passes seals c.kept i x calm at, sealed));
-  })
+    hand_run = λ m is. (well.sets m (inl is)).run_is;
+    open_run = λ m is. (well.sets m (inl is)).run_is;
+  }
 
 -- ## A dataset that is being saved
 
@@ -207,8 +267,8 @@ module _ (w : Work) (n : ℕ) (c : Core) (m : Manifest) (states : ℕ → Device
     home_there : (k : ℕ) → k < c.shape.nodes → slice_get c.places k ≡ Some k
     home_there k lt = Rattle.site_core.proofs.SaveEnds.home_of c k h.well lt
 
-  saving_cache : LeavesCache c.places c.shape.ranks states c.kept
-  saving_cache = cache_left c.shape c.run c.places states c.kept c.opened (Some m) (record {
+  saving_facts : CacheFacts c.shape c.run c.places states c.kept c.opened (Some m)
+  saving_facts = record {
     places_are = h.well.places;
     of_site = λ i x at. h.well.sets x.manifest (inr (i, x, at, refl));
     files = λ i x at. h.files.files x.manifest (inr (i, x, at, refl));
@@ -221,7 +281,9 @@ module _ (w : Work) (n : ℕ) (c : Core) (m : Manifest) (states : ℕ → Device
     known = λ y is no_open no_kept. pick_known (some_same m y is) no_open no_kept known;
     away = λ y is p node low at off. subst (λ (z : Manifest). IsPlace z.desc.which node → (o : Option (List ℕ)) → MayLeave ((states p).file (record_name z.desc.which node)) o → IsOpen o 1 → ⊥) (some_same m y is) (λ place. off_home p node low place off) at;
     sealing_away = λ i x at sealed p node low place off. subst (λ (z : Manifest). IsPlace z.desc.which node → IsAtRest ((states p).file (record_name z.desc.which node))) (sym (h.one i x at sealed)) (λ at. h.leaves.elsewhere p node low at off) place;
-  }) where
+    hand_run = λ y is. subst (λ (z : Manifest). z.desc.which.run ≤ c.run) (some_same m y is) (h.well.sets m known).run_is;
+    open_run = λ y is. (h.well.sets y (inl is)).run_is;
+  } where
     of_hand : (q : List ℕ) → (IsOfDataset m.desc.which q → ⊥) → (x : Manifest) → x ≡ m → IsFileOf c x q ⊎ ((node : ℕ) × (node < 2 ^ 8) × (q ≡ record_name x.desc.which node)) → ⊥
     of_hand q away x is (inl file) = away (subst (λ (z : Manifest). IsOfDataset z.desc.which q) is (file_is_of c x q file))
     of_hand q away x is (inr record_is) = away (subst (λ (z : Manifest). IsOfDataset z.desc.which q) is (record_is.0, record_is.1, inl record_is.2))
@@ -240,86 +302,57 @@ module _ (w : Work) (n : ℕ) (c : Core) (m : Manifest) (states : ℕ → Device
     off_home : (p node : ℕ) → p < 32 → IsPlace m.desc.which node → (slice_get c.places node ≡ Some p → ⊥) → (o : Option (List ℕ)) → MayLeave ((states p).file (record_name m.desc.which node)) o → IsOpen o 1 → ⊥
     off_home p node low place off = not_left ((states p).file (record_name m.desc.which node)) (h.leaves.elsewhere p node low place off) (h.files.others p m.desc.which node low place (λ y is same home. off home))
 
+  loose_kept : LeavesKept (setup_of c) c.places states (running (contents_of (cells_of states) c) c)
+  loose_kept = record { sets = c.kept; kept = refl; places_are = h.well.places; of_site = λ i x at. h.well.sets x.manifest (inr (i, x, at, refl)); rise = h.well.rise; index = refl; cache = cache_left c.shape c.run c.places states c.kept c.opened (Some m) saving_facts }
+
+  loose_prefix : LeavesPrefix (states 32) (running (contents_of (cells_of states) c) c)
+  loose_prefix = rest_prefix (states 32) (running (contents_of (cells_of states) c) c) (λ q. h.quiet 32 q (omega arith) (λ lt pending. no_node c.shape lt)) h.files.stored h.files.halted
+
   pub loose_left : IsLeft c states (running (contents_of (cells_of states) c) c)
-  loose_left = record { sets = c.kept; kept = refl; places_are = h.well.places; of_site = λ i x at. h.well.sets x.manifest (inr (i, x, at, refl)); cache = saving_cache }
+  loose_left = record { leaves = loose_kept; prefix = loose_prefix; later = none_later c.shape c.run c.places states c.kept c.opened (Some m) saving_facts; plain = record { mark = refl; pending = refl } }
 
 -- ## A dataset on its way out
 
-leaving_left : (gone settled : ℕ → Bool) (c : Core) (states : ℕ → DeviceState) (m : Machine) → IsLeavingAt gone settled c states m → IsLeft c states m
-leaving_left gone settled c states m h = record {
-  sets = c.kept;
-  kept = ap (λ (x : Machine). x.kept) h.is;
+leaving_facts : (gone settled : ℕ → Bool) (c : Core) (states : ℕ → DeviceState) (m : Machine) (h : IsLeavingAt gone settled c states m) → CacheFacts c.shape c.run c.places states c.kept c.opened (Some h.set)
+leaving_facts gone settled c states m h = record {
   places_are = h.well.places;
-  of_site = λ i x at. subst (λ (run : ℕ). IsOfSite c.shape run x.manifest) (ap (λ (y : Machine). y.run) (sym h.is)) (h.well.sets x.manifest (inr (i, x, at, refl)));
-  cache = cache_left c.shape c.run c.places states c.kept c.opened (Some h.set) (record {
-    places_are = h.well.places;
-    of_site = λ i x at. h.well.sets x.manifest (inr (i, x, at, refl));
-    files = λ i x at. h.files x.manifest (i, x, at, refl);
-    records = λ i x at calm. h.records i x at;
-    others = h.others;
-    quiet = λ p q low away. h.quiet p q (omega (arith, low)) (λ lt un of. away h.set refl of);
-    apart = λ i x at still y is. λ same. kept_other c h.set x.manifest h.well h.opened (i, x, at, refl) (same ∙ ap (λ (z : Manifest). z.desc.which) (sym (some_same h.set y is)));
-    sealing = λ i x at sealed. absurd (cc (none-passes seals c.kept i x h.sealed at, sealed));
-    opening = λ y is node p home. shut_of y (some_same h.set y (sym h.opened ∙ is)) p node (home_low c node p h.well.places home) (home_place c y node p h.well.places home);
-    known = λ y is no_open no_kept. no_open (h.opened ∙ is);
-    away = λ y is p node low at off. shut_of y (some_same h.set y is) p node low at;
-    sealing_away = λ i x at sealed. absurd (cc (none-passes seals c.kept i x h.sealed at, sealed));
-  });
+  of_site = λ i x at. h.well.sets x.manifest (inr (i, x, at, refl));
+  files = λ i x at. h.files x.manifest (i, x, at, refl);
+  records = λ i x at calm. h.records i x at;
+  others = h.others;
+  quiet = λ p q low away. h.quiet p q (omega (arith, low)) (λ lt un of. away h.set refl of);
+  apart = λ i x at still y is. λ same. kept_other c h.set x.manifest h.well h.opened (i, x, at, refl) (same ∙ ap (λ (z : Manifest). z.desc.which) (sym (some_same h.set y is)));
+  sealing = λ i x at sealed. absurd (cc (none-passes seals c.kept i x h.sealed at, sealed));
+  opening = λ y is node p home. shut_of y (some_same h.set y (sym h.opened ∙ is)) p node (home_low c node p h.well.places home) (home_place c y node p h.well.places home);
+  known = λ y is no_open no_kept. no_open (h.opened ∙ is);
+  away = λ y is p node low at off. shut_of y (some_same h.set y is) p node low at;
+  sealing_away = λ i x at sealed. absurd (cc (none-passes seals c.kept i x h.sealed at, sealed));
+  hand_run = λ y is. subst (λ (z : Manifest). z.desc.which.run ≤ c.run) (some_same h.set y is) (h.well.sets h.set (inl h.opened)).run_is;
+  open_run = λ y is. (h.well.sets y (inl is)).run_is;
 } where
   shut_of : (y : Manifest) → h.set ≡ y → (p node : ℕ) → p < 32 → IsPlace y.desc.which node → (o : Option (List ℕ)) → MayLeave ((states p).file (record_name y.desc.which node)) o → IsOpen o 1 → ⊥
   shut_of y same p node low = subst (λ (z : Manifest). IsPlace z.desc.which node → (o : Option (List ℕ)) → MayLeave ((states p).file (record_name z.desc.which node)) o → IsOpen o 1 → ⊥) same (λ at. (h.unsealed p node low at).shut)
 
+leaving_kept : (gone settled : ℕ → Bool) (c : Core) (states : ℕ → DeviceState) (m : Machine) → IsLeavingAt gone settled c states m → LeavesKept (setup_of c) c.places states m
+leaving_kept gone settled c states m h = record {
+  sets = c.kept;
+  kept = ap (λ (x : Machine). x.kept) h.is;
+  places_are = h.well.places;
+  of_site = λ i x at. subst (λ (run : ℕ). IsOfSite c.shape run x.manifest) (ap (λ (y : Machine). y.run) (sym h.is)) (h.well.sets x.manifest (inr (i, x, at, refl)));
+  rise = h.well.rise;
+  index = ap (λ (x : Machine). x.index) h.is;
+  cache = cache_left c.shape c.run c.places states c.kept c.opened (Some h.set) (leaving_facts gone settled c states m h);
+}
+
+leaving_prefix : (gone settled : ℕ → Bool) (c : Core) (states : ℕ → DeviceState) (m : Machine) → IsLeavingAt gone settled c states m → LeavesPrefix (states 32) m
+leaving_prefix gone settled c states m h =
+    rest_prefix (states 32) m (λ q. h.quiet 32 q (omega arith) (λ lt un of. no_node c.shape lt)) (h.stored ∙ ap (λ (y : Machine). y.run) (sym h.is)) (h.halted ∙ ap (λ (y : Machine). y.halt) (sym h.is))
+
 -- ## Every stage of a run that isn't over
 
-pub stage_left : (s : Stage) (c : Core) (states : ℕ → DeviceState) (m : Machine) → c.stage ≡ s → is_over s ≡ false → HoldsAt s c states m → IsLeft c states m
-stage_left stage.Begun c states m at on h = record {
-  sets = map settled_set h.stands.sets;
-  kept = subst (λ (ps : List ℕ). m.kept ≡ map (kept_of (setup_of c) (contents_in (cells_of states) ps c.shape.ranks) ps) (map settled_set h.stands.sets)) (sym h.fresh.places) h.stands.kept;
-  places_are = h.fresh.places;
-  of_site = λ i x at. let y = set_at h.stands.sets i x at in subst (λ (z : Cached). IsOfSite c.shape m.run z.manifest) y.is (h.stands.store.sets_are y.set (i, y.at));
-  cache = early_left c.shape m.run c.places states h.stands.sets h.fresh.places h.stands.store.sets_are
-      (λ x is. subst (λ (ps : List ℕ). FilesStand (cells_of states) ps c.shape.ranks x) (sym h.fresh.places) (h.stands.store.files x is))
-      (λ x is. subst (λ (ps : List ℕ). RecordsStand (cells_of states) ps x) (sym h.fresh.places) (h.stands.store.records x is))
-      (subst (λ (ps : List ℕ). NoOtherRecords (IsOneOf h.stands.sets) (cells_of states) ps) (sym h.fresh.places) h.stands.store.others)
-      (λ p q low. h.stands.quiet p q (omega (arith, low)));
-}
-stage_left stage.Storing c states m at on h = record {
-  sets = map settled_set h.sets;
-  kept = h.kept;
-  places_are = h.fresh.places;
-  of_site = λ i x at. let y = set_at h.sets i x at in subst (λ (z : Cached). IsOfSite c.shape m.run z.manifest) y.is (h.sets_are y.set (i, y.at));
-  cache = early_left c.shape m.run c.places states h.sets h.fresh.places h.sets_are h.files h.records h.others (λ p q low. h.quiet p q (omega (arith, low)) (λ is. absurd (omega (arith, is, low))));
-}
-stage_left stage.Looking c states m at on h = record {
-  sets = map settled_set h.sets;
-  kept = ap (λ (x : Machine). x.kept) h.is;
-  places_are = h.fresh.places;
-  of_site = λ i x at. let y = set_at h.sets i x at in subst (λ (run : ℕ). IsOfSite c.shape run x.manifest) (ap (λ (z : Machine). z.run) (sym h.is)) (subst (λ (z : Cached). IsOfSite c.shape c.run z.manifest) y.is (h.store.sets_are y.set (i, y.at)));
-  cache = early_left c.shape c.run c.places states h.sets h.fresh.places h.store.sets_are
-      (λ x is. subst (λ (ps : List ℕ). FilesStand (cells_of states) ps c.shape.ranks x) (sym h.fresh.places) (h.store.files x is))
-      (λ x is. subst (λ (ps : List ℕ). RecordsStand (cells_of states) ps x) (sym h.fresh.places) (h.store.records x is))
-      (subst (λ (ps : List ℕ). NoOtherRecords (IsOneOf h.sets) (cells_of states) ps) (sym h.fresh.places) h.store.others)
-      (λ p q low. h.quiet p q (omega (arith, low)));
-}
-stage_left stage.Mending c states m at on h =
-    let working : WorkIs stage.Mending c states = subst (λ (s : Stage). WorkIs s c states) at h.working in
-    record {
-      sets = c.kept;
-      kept = ap (λ (x : Machine). x.kept) h.is;
-      places_are = h.well.places;
-      of_site = λ i x there. subst (λ (run : ℕ). IsOfSite c.shape run x.manifest) (ap (λ (y : Machine). y.run) (sym h.is)) (h.well.sets x.manifest (inr (i, x, there, refl)));
-      cache = serving_left c states h.well h.files (subst (λ (s : Stage). (p : ℕ) (q : List ℕ) → p ≤ 32 → (p < c.shape.nodes → IsPending s c q → ⊥) → IsAtRest ((states p).file q)) at h.quiet) (subst (λ (s : Stage). NoRecordYet s c (cells_of states)) at h.unrecorded) working.1;
-    }
-stage_left stage.Serving c states m at on h =
-    let working : WorkIs stage.Serving c states = subst (λ (s : Stage). WorkIs s c states) at h.working in
-    record {
-      sets = c.kept;
-      kept = ap (λ (x : Machine). x.kept) h.is;
-      places_are = h.well.places;
-      of_site = λ i x there. subst (λ (run : ℕ). IsOfSite c.shape run x.manifest) (ap (λ (y : Machine). y.run) (sym h.is)) (h.well.sets x.manifest (inr (i, x, there, refl)));
-      cache = serving_left c states h.well h.files (subst (λ (s : Stage). (p : ℕ) (q : List ℕ) → p ≤ 32 → (p < c.shape.nodes → IsPending s c q → ⊥) → IsAtRest ((states p).file q)) at h.quiet) (subst (λ (s : Stage). NoRecordYet s c (cells_of states)) at h.unrecorded) working.1;
-    }
-stage_left (stage.Saving w n) c states m at on h =
+-- what is known of the files where the stage is one of saving
+saving_now : (w : Work) (n : ℕ) (c : Core) (states : ℕ → DeviceState) (m : Machine) → c.stage ≡ stage.Saving w n → IsUp c states m → (x : Manifest) × IsLoose w n c x states
+saving_now w n c states m at h =
     let working : WorkIs (stage.Saving w n) c states = subst (λ (s : Stage). WorkIs s c states) at h.working in
     let x = working.0 in
     let loose : IsLoose w n c x states = record {
@@ -332,28 +365,158 @@ stage_left (stage.Saving w n) c states m at on h =
       one = working.2.one;
       leaves = working.2.leaves;
     } in
-    subst (λ (y : Machine). IsLeft c states y) (sym h.is) (loose_left w n c x states loose)
-stage_left (stage.Dropping d n) c states m at on h = leaving_left _ _ c states m h.leaves
-stage_left stage.Dropped c states m at on h = leaving_left _ _ c states m h
-stage_left stage.Stopped c states m at on h = absurd (cc on)
-stage_left stage.Cut c states m at on h = absurd (cc on)
+    (x, loose)
+
+begun_facts : (c : Core) (states : ℕ → DeviceState) (m : Machine) (h : IsBegun c states m) → CacheFacts c.shape m.run c.places states (map settled_set h.stands.sets) None None
+begun_facts c states m h = early_facts c.shape m.run c.places states h.stands.sets h.fresh.places h.stands.store.sets_are
+    (λ x is. subst (λ (ps : List ℕ). FilesStand (cells_of states) ps c.shape.ranks x) (sym h.fresh.places) (h.stands.store.files x is))
+    (λ x is. subst (λ (ps : List ℕ). RecordsStand (cells_of states) ps x) (sym h.fresh.places) (h.stands.store.records x is))
+    (subst (λ (ps : List ℕ). NoOtherRecords (IsOneOf h.stands.sets) (cells_of states) ps) (sym h.fresh.places) h.stands.store.others)
+    (λ p q low. h.stands.quiet p q (omega (arith, low)))
+
+storing_facts : (c : Core) (states : ℕ → DeviceState) (m : Machine) (h : IsStoring c states m) → CacheFacts c.shape m.run c.places states (map settled_set h.sets) None None
+storing_facts c states m h = early_facts c.shape m.run c.places states h.sets h.fresh.places h.sets_are h.files h.records h.others (λ p q low. h.quiet p q (omega (arith, low)) (λ is. absurd (omega (arith, is, low))))
+
+looking_facts : (c : Core) (states : ℕ → DeviceState) (m : Machine) (h : IsLooking c states m) → CacheFacts c.shape c.run c.places states (map settled_set h.sets) None None
+looking_facts c states m h = early_facts c.shape c.run c.places states h.sets h.fresh.places h.store.sets_are
+    (λ x is. subst (λ (ps : List ℕ). FilesStand (cells_of states) ps c.shape.ranks x) (sym h.fresh.places) (h.store.files x is))
+    (λ x is. subst (λ (ps : List ℕ). RecordsStand (cells_of states) ps x) (sym h.fresh.places) (h.store.records x is))
+    (subst (λ (ps : List ℕ). NoOtherRecords (IsOneOf h.sets) (cells_of states) ps) (sym h.fresh.places) h.store.others)
+    (λ p q low. h.quiet p q (omega (arith, low)))
+
+stage_kept : (s : Stage) (c : Core) (states : ℕ → DeviceState) (m : Machine) → c.stage ≡ s → is_over s ≡ false → HoldsAt s c states m → LeavesKept (setup_of c) c.places states m
+stage_kept stage.Begun c states m at on h = record {
+  sets = map settled_set h.stands.sets;
+  kept = subst (λ (ps : List ℕ). m.kept ≡ map (kept_of (setup_of c) (contents_in (cells_of states) ps c.shape.ranks) ps) (map settled_set h.stands.sets)) (sym h.fresh.places) h.stands.kept;
+  places_are = h.fresh.places;
+  of_site = λ i x at. let y = set_at h.stands.sets i x at in subst (λ (z : Cached). IsOfSite c.shape m.run z.manifest) y.is (h.stands.store.sets_are y.set (i, y.at));
+  rise = h.stands.store.rise;
+  index = h.stands.index;
+  cache = cache_left c.shape m.run c.places states (map settled_set h.stands.sets) None None (begun_facts c states m h);
+}
+stage_kept stage.Storing c states m at on h = record {
+  sets = map settled_set h.sets;
+  kept = h.kept;
+  places_are = h.fresh.places;
+  of_site = λ i x at. let y = set_at h.sets i x at in subst (λ (z : Cached). IsOfSite c.shape m.run z.manifest) y.is (h.sets_are y.set (i, y.at));
+  rise = h.rise;
+  index = h.index;
+  cache = cache_left c.shape m.run c.places states (map settled_set h.sets) None None (storing_facts c states m h);
+}
+stage_kept stage.Looking c states m at on h = record {
+  sets = map settled_set h.sets;
+  kept = ap (λ (x : Machine). x.kept) h.is;
+  places_are = h.fresh.places;
+  of_site = λ i x at. let y = set_at h.sets i x at in subst (λ (run : ℕ). IsOfSite c.shape run x.manifest) (ap (λ (z : Machine). z.run) (sym h.is)) (subst (λ (z : Cached). IsOfSite c.shape c.run z.manifest) y.is (h.store.sets_are y.set (i, y.at)));
+  rise = h.store.rise;
+  index = ap (λ (x : Machine). x.index) h.is;
+  cache = cache_left c.shape c.run c.places states (map settled_set h.sets) None None (looking_facts c states m h);
+}
+stage_kept stage.Mending c states m at on h =
+    let working : WorkIs stage.Mending c states = subst (λ (s : Stage). WorkIs s c states) at h.working in
+    record {
+      sets = c.kept;
+      kept = ap (λ (x : Machine). x.kept) h.is;
+      places_are = h.well.places;
+      of_site = λ i x there. subst (λ (run : ℕ). IsOfSite c.shape run x.manifest) (ap (λ (y : Machine). y.run) (sym h.is)) (h.well.sets x.manifest (inr (i, x, there, refl)));
+      rise = h.well.rise;
+      index = ap (λ (x : Machine). x.index) h.is;
+      cache = cache_left c.shape c.run c.places states c.kept c.opened c.opened (serving_facts c states h.well h.files (subst (λ (s : Stage). (p : ℕ) (q : List ℕ) → p ≤ 32 → (p < c.shape.nodes → IsPending s c q → ⊥) → IsAtRest ((states p).file q)) at h.quiet) (subst (λ (s : Stage). NoRecordYet s c (cells_of states)) at h.unrecorded) working.1);
+    }
+stage_kept stage.Serving c states m at on h =
+    let working : WorkIs stage.Serving c states = subst (λ (s : Stage). WorkIs s c states) at h.working in
+    record {
+      sets = c.kept;
+      kept = ap (λ (x : Machine). x.kept) h.is;
+      places_are = h.well.places;
+      of_site = λ i x there. subst (λ (run : ℕ). IsOfSite c.shape run x.manifest) (ap (λ (y : Machine). y.run) (sym h.is)) (h.well.sets x.manifest (inr (i, x, there, refl)));
+      rise = h.well.rise;
+      index = ap (λ (x : Machine). x.index) h.is;
+      cache = cache_left c.shape c.run c.places states c.kept c.opened c.opened (serving_facts c states h.well h.files (subst (λ (s : Stage). (p : ℕ) (q : List ℕ) → p ≤ 32 → (p < c.shape.nodes → IsPending s c q → ⊥) → IsAtRest ((states p).file q)) at h.quiet) (subst (λ (s : Stage). NoRecordYet s c (cells_of states)) at h.unrecorded) working.1);
+    }
+stage_kept (stage.Saving w n) c states m at on h = let x = saving_now w n c states m at h in subst (λ (y : Machine). LeavesKept (setup_of c) c.places states y) (sym h.is) (loose_kept w n c x.0 states x.1)
+stage_kept (stage.Dropping d n) c states m at on h = leaving_kept _ _ c states m h.leaves
+stage_kept stage.Dropped c states m at on h = leaving_kept _ _ c states m h
+stage_kept stage.Stopped c states m at on h = absurd (cc on)
+stage_kept stage.Cut c states m at on h = absurd (cc on)
+
+up_prefix : (c : Core) (states : ℕ → DeviceState) (m : Machine) → IsUp c states m → LeavesPrefix (states 32) m
+up_prefix c states m h = rest_prefix (states 32) m (λ q. h.quiet 32 q (omega arith) (λ lt pending. no_node c.shape lt)) (h.files.stored ∙ ap (λ (y : Machine). y.run) (sym h.is)) (h.files.halted ∙ ap (λ (y : Machine). y.halt) (sym h.is))
+
+stage_prefix : (s : Stage) (c : Core) (states : ℕ → DeviceState) (m : Machine) → is_over s ≡ false → HoldsAt s c states m → LeavesPrefix (states 32) m
+stage_prefix stage.Begun c states m on h = rest_prefix (states 32) m (λ q. h.stands.quiet 32 q (omega arith)) h.stands.store.stored (sym h.stands.halt)
+stage_prefix stage.Storing c states m on h = storing_prefix c states m h (states 32) h.leaves (λ k lt o may. rest_leaves ((states 32).file (copy_name (codes "halt") k)) o (h.quiet 32 (copy_name (codes "halt") k) (omega arith) (λ is. no_number_file k)) may)
+stage_prefix stage.Looking c states m on h = rest_prefix (states 32) m (λ q. h.quiet 32 q (omega arith)) (h.store.stored ∙ ap (λ (y : Machine). y.run) (sym h.is)) (h.halted ∙ ap (λ (y : Machine). y.halt) (sym h.is))
+stage_prefix stage.Mending c states m on h = up_prefix c states m h
+stage_prefix stage.Serving c states m on h = up_prefix c states m h
+stage_prefix (stage.Saving w n) c states m on h = up_prefix c states m h
+stage_prefix (stage.Dropping d n) c states m on h = leaving_prefix _ _ c states m h.leaves
+stage_prefix stage.Dropped c states m on h = leaving_prefix _ _ c states m h
+stage_prefix stage.Stopped c states m on h = absurd (cc on)
+stage_prefix stage.Cut c states m on h = absurd (cc on)
+
+saving_later : (w : Work) (n : ℕ) (c : Core) (states : ℕ → DeviceState) (m : Machine) → c.stage ≡ stage.Saving w n → IsUp c states m → NoLater states c.run
+saving_later w n c states m at h = let x = saving_now w n c states m at h in none_later c.shape c.run c.places states c.kept c.opened (Some x.0) (saving_facts w n c x.0 states x.1)
+
+stage_later : (s : Stage) (c : Core) (states : ℕ → DeviceState) (m : Machine) → c.stage ≡ s → is_over s ≡ false → HoldsAt s c states m → NoLater states m.run
+stage_later stage.Begun c states m at on h = none_later c.shape m.run c.places states (map settled_set h.stands.sets) None None (begun_facts c states m h)
+stage_later stage.Storing c states m at on h = none_later c.shape m.run c.places states (map settled_set h.sets) None None (storing_facts c states m h)
+stage_later stage.Looking c states m at on h = subst (λ (run : ℕ). NoLater states run) (ap (λ (y : Machine). y.run) (sym h.is)) (none_later c.shape c.run c.places states (map settled_set h.sets) None None (looking_facts c states m h))
+stage_later stage.Mending c states m at on h =
+    let working : WorkIs stage.Mending c states = subst (λ (s : Stage). WorkIs s c states) at h.working in
+    subst (λ (run : ℕ). NoLater states run) (ap (λ (y : Machine). y.run) (sym h.is)) (none_later c.shape c.run c.places states c.kept c.opened c.opened (serving_facts c states h.well h.files (subst (λ (s : Stage). (p : ℕ) (q : List ℕ) → p ≤ 32 → (p < c.shape.nodes → IsPending s c q → ⊥) → IsAtRest ((states p).file q)) at h.quiet) (subst (λ (s : Stage). NoRecordYet s c (cells_of states)) at h.unrecorded) working.1))
+stage_later stage.Serving c states m at on h =
+    let working : WorkIs stage.Serving c states = subst (λ (s : Stage). WorkIs s c states) at h.working in
+    subst (λ (run : ℕ). NoLater states run) (ap (λ (y : Machine). y.run) (sym h.is)) (none_later c.shape c.run c.places states c.kept c.opened c.opened (serving_facts c states h.well h.files (subst (λ (s : Stage). (p : ℕ) (q : List ℕ) → p ≤ 32 → (p < c.shape.nodes → IsPending s c q → ⊥) → IsAtRest ((states p).file q)) at h.quiet) (subst (λ (s : Stage). NoRecordYet s c (cells_of states)) at h.unrecorded) working.1))
+stage_later (stage.Saving w n) c states m at on h = subst (λ (run : ℕ). NoLater states run) (ap (λ (y : Machine). y.run) (sym h.is)) (saving_later w n c states m at h)
+stage_later (stage.Dropping d n) c states m at on h = subst (λ (run : ℕ). NoLater states run) (ap (λ (y : Machine). y.run) (sym h.leaves.is)) (none_later c.shape c.run c.places states c.kept c.opened (Some h.leaves.set) (leaving_facts _ _ c states m h.leaves))
+stage_later stage.Dropped c states m at on h = subst (λ (run : ℕ). NoLater states run) (ap (λ (y : Machine). y.run) (sym h.is)) (none_later c.shape c.run c.places states c.kept c.opened (Some h.set) (leaving_facts _ _ c states m h))
+stage_later stage.Stopped c states m at on h = absurd (cc on)
+stage_later stage.Cut c states m at on h = absurd (cc on)
+
+stage_plain : (s : Stage) (c : Core) (states : ℕ → DeviceState) (m : Machine) → is_over s ≡ false → HoldsAt s c states m → IsPlain m
+stage_plain stage.Begun c states m on h = record { mark = h.stands.mark_is; pending = ap pending_of h.stands.between }
+stage_plain stage.Storing c states m on h = record { mark = h.mark_is; pending = ap pending_of h.between }
+stage_plain stage.Looking c states m on h = record { mark = ap (λ (y : Machine). y.mark) h.is; pending = ap (λ (y : Machine). pending_of y.stage) h.is }
+stage_plain stage.Mending c states m on h = record { mark = ap (λ (y : Machine). y.mark) h.is; pending = ap (λ (y : Machine). pending_of y.stage) h.is }
+stage_plain stage.Serving c states m on h = record { mark = ap (λ (y : Machine). y.mark) h.is; pending = ap (λ (y : Machine). pending_of y.stage) h.is }
+stage_plain (stage.Saving w n) c states m on h = record { mark = ap (λ (y : Machine). y.mark) h.is; pending = ap (λ (y : Machine). pending_of y.stage) h.is }
+stage_plain (stage.Dropping d n) c states m on h = record { mark = ap (λ (y : Machine). y.mark) h.leaves.is; pending = ap (λ (y : Machine). pending_of y.stage) h.leaves.is }
+stage_plain stage.Dropped c states m on h = record { mark = ap (λ (y : Machine). y.mark) h.is; pending = ap (λ (y : Machine). pending_of y.stage) h.is }
+stage_plain stage.Stopped c states m on h = absurd (cc on)
+stage_plain stage.Cut c states m on h = absurd (cc on)
+
+pub stage_left : (s : Stage) (c : Core) (states : ℕ → DeviceState) (m : Machine) → c.stage ≡ s → is_over s ≡ false → HoldsAt s c states m → IsLeft c states m
+stage_left s c states m at on h = record { leaves = stage_kept s c states m at on h; prefix = stage_prefix s c states m on h; later = stage_later s c states m at on h; plain = stage_plain s c states m on h }
 
 -- ## After a call that was refused
 
--- what reads give is the same, and a stop leaves no more
-pub left_on : (c : Core) (states after : ℕ → DeviceState) (m : Machine) → ((p : ℕ) (q : List ℕ) → p < 32 → IsPartlySynced ((states p).file q) ((after p).file q)) → ((p : ℕ) (q : List ℕ) → p < 32 → cells_of after p q ≡ cells_of states p q) → IsLeft c states m → IsLeft c after m
-left_on c states after m partly same l = kept_on (setup_of c) c.places states after m (λ k. low_place c.shape c.places k l.places_are) partly same l
-
 -- the nodes are as they were
-pub left_apart : (c : Core) (states after : ℕ → DeviceState) (m : Machine) → ((p : ℕ) → p ≢ 32 → after p ≡ states p) → IsLeft c states m → IsLeft c after m
-left_apart c states after m apart = left_on c states after m (λ p q low. same_partly ((states p).file q) ((after p).file q) (ap (λ (d : DeviceState). d.file q) (apart p (not_prefix p low)))) (λ p q low. ap (λ (d : DeviceState). (d.file q).now) (apart p (not_prefix p low))) where
-  not_prefix : (p : ℕ) → p < 32 → p ≢ 32
-  not_prefix p low is = absurd (omega (arith, low, is))
+kept_apart : (c : Core) (states after : ℕ → DeviceState) (m : Machine) → ((p : ℕ) → p ≢ 32 → after p ≡ states p) → LeavesKept (setup_of c) c.places states m → LeavesKept (setup_of c) c.places after m
+kept_apart c states after m apart l = kept_on (setup_of c) c.places states after m (λ k. low_place c.shape c.places k l.places_are)
+    (λ p q low. same_partly ((states p).file q) ((after p).file q) (ap (λ (d : DeviceState). d.file q) (apart p (not_prefix p low)))) (λ p q low. ap (λ (d : DeviceState). (d.file q).now) (apart p (not_prefix p low))) l where
+      not_prefix : (p : ℕ) → p < 32 → p ≢ 32
+      not_prefix p low is = absurd (omega (arith, low, is))
 
 -- a read, a sync or a removal was refused
 pub left_alike : (c : Core) (place : ℕ) (states after : ℕ → DeviceState) (m : Machine) → OnlyAt place KeptAlike states after → IsLeft c states m → IsLeft c after m
-left_alike c place states after m done =
-    left_on c states after m (λ p q low. alike_partly place states after done p q) (λ p q low. ap (λ (cells : Cells). cells p q) (cells_alike place states after done.here.alike done.others))
+left_alike c place states after m done l = record {
+  leaves = kept_on (setup_of c) c.places states after m (λ k. low_place c.shape c.places k l.leaves.places_are) (λ p q low. alike_partly place states after done p q)
+      (λ p q low. ap (λ (cells : Cells). cells p q) (cells_alike place states after done.here.alike done.others)) l.leaves;
+  prefix = λ left out. l.prefix left (λ q. (alike_partly place states after done 32 q).outcomes (left q) (out q));
+  later = later_on states after m.run (λ p q low. alike_partly place states after done p q) l.later;
+  plain = l.plain;
+}
+
+-- a step of the run's number was refused
+pub left_unnumbered : (c : Core) (states after : ℕ → DeviceState) (m : Machine) → c.stage ≡ stage.Storing → IsStoring c states m → (after 32).tells ≡ true → OnlyAt 32 (Unnumbered c.storing.want c.storing.changes) states after → IsLeft c after m
+left_unnumbered c states after m at h told done = record {
+  leaves = kept_apart c states after m done.others (stage_kept stage.Storing c states m at refl h);
+  prefix = storing_prefix c states m h (after 32) (done.here.leaves h.old h.way told) (λ k lt o may.
+      rest_leaves ((states 32).file (copy_name (codes "halt") k)) o (h.quiet 32 (copy_name (codes "halt") k) (omega arith) (λ is. no_number_file k)) ((done.here.only.others (copy_name (codes "halt") k) (no_run_file k 0) (no_run_file k 1)).outcomes o may));
+  later = later_on states after m.run (λ p q low. same_partly ((states p).file q) ((after p).file q) (ap (λ (d : DeviceState). d.file q) (done.others p (λ is. absurd (omega (arith, is, low)))))) (stage_later stage.Storing c states m at refl h);
+  plain = stage_plain stage.Storing c states m refl h;
+}
 
 -- a gate of the dataset that is being saved was refused
 module _ (first : Machine) (c : Core) (programs : List (List Step)) (states after : ℕ → DeviceState) (events : List Event) (w : Work) (n : ℕ) (m : Manifest) (h : IsSaving first c programs states events w n m) (place gate : ℕ) (home : slice_get c.places n ≡ Some place)

@@ -73,6 +73,8 @@ numbered first c programs states events n halt at fits is told leads =
               (ap (value_in 1) (rest_leaves ((states 32).file (copy_name (codes "run") 1)) b (h.quiet 32 (copy_name (codes "run") 1) (omega arith)) may_b));
           follows = may_follow old n fits is;
         };
+        leaves = λ a b may_a may_b. inl (ap₂ newer (ap (value_in 0) (rest_leaves ((states 32).file (copy_name (codes "run") 0)) a (h.quiet 32 (copy_name (codes "run") 0) (omega arith)) may_a))
+            (ap (value_in 1) (rest_leaves ((states 32).file (copy_name (codes "run") 1)) b (h.quiet 32 (copy_name (codes "run") 1) (omega arith)) may_b)));
         quiet = λ p q low other. h.quiet p q low;
         rise = h.store.rise;
         sets_are = h.store.sets_are;

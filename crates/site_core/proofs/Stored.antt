@@ -19,7 +19,7 @@ use Rattle.node_device.specs.File.{File, IsAtRest, bytes_of}
 use Rattle.node_device.specs.DeviceState.{DeviceState}
 use Rattle.node_device.specs.Rack.{OnlyAt}
 use Rattle.gated_record.specs.Pair.{value_in, newer, copy_name, copy_of}
-use Rattle.gated_record.specs.PairStages.{IsPairStage, HasCome}
+use Rattle.gated_record.specs.PairStages.{IsPairStage, PairLeaves, IsOldOrWanted, HasCome}
 use Rattle.gated_record.specs.PairSteps.{StepsPair, PairStands}
 use Rattle.gated_record.specs.declared.pair.PairValue.{PairValue}
 use Rattle.gated_record.proofs.PairWay.{shut_no_value}
@@ -112,8 +112,8 @@ abbrev pub Stepped : PairValue → Bool → Option (List Change) → Option (Lis
 Stepped want over before next states after = OnlyAt 32 (λ a b. StepsPair (codes "run") want (Ok over) before next a b) states after
 
 pub stepped : (first : Machine) (c : Core) (programs : List (List Step)) (states after : ℕ → DeviceState) (events : List Event) (over : Bool) (way : Way) → c.stage ≡ stage.Storing → way.want ≡ c.storing.want
-    → Stepped c.storing.want over c.storing.changes way.changes states after → Leads first c programs states events → Leads first (record c { storing = way }) programs after events
-stepped first c programs states after events over way at same done leads =
+    → Stepped c.storing.want over c.storing.changes way.changes states after → (after 32).tells ≡ true → Leads first c programs states events → Leads first (record c { storing = way }) programs after events
+stepped first c programs states after events over way at same done told leads =
     let m = leads.state in
     let h = storing_at c.stage c states m at leads.holds in
     let fresh = h.fresh in
@@ -128,6 +128,7 @@ stepped first c programs states after events over way at same done leads =
       old_is = h.old_is;
       want = same ∙ h.want;
       way = subst (λ (w : PairValue). IsPairStage (codes "run") h.old w (after 32) way.changes) (sym same) way_on;
+      leaves = subst (λ (w : PairValue). PairLeaves (codes "run") (after 32) (IsOldOrWanted h.old w)) (sym same) ((done.here.goes h.old h.way).leaves told);
       quiet = λ p q low other. pick p q low other (cases_eq p 32) (h.quiet p q low other);
       rise = h.rise;
       sets_are = h.sets_are;

@@ -1,5 +1,5 @@
 -- What a turn told.
-use Rattle.std.proofs.Common.{◌≡◌, ◌≢◌, ◌⊎◌, inl, refl, sym, subst, true, false, Option, None, Some, slice_get, Result, Ok, Err, IfOk, ap, ◌∙◌, inr, ℕ, List, [], ◌∷◌, ◌++◌, arith}
+use Rattle.std.proofs.Common.{◌≡◌, ◌⊎◌, inl, refl, sym, subst, true, false, Option, None, Some, slice_get, Result, Ok, Err, IfOk, ap, ◌∙◌, inr, ℕ, List, [], ◌∷◌, ◌++◌, arith}
 use Rattle.node_device.specs.DeviceState.{DeviceState}
 use Rattle.ckpt_model.specs.declared.event.Event.{Event}
 use Rattle.scr_base.specs.declared.answers.Refusal.{Refusal}
@@ -27,7 +27,7 @@ use Rattle.site_core.specs.Cores.{saved_in}
 use Rattle.site_core.specs.declared.core_state.Work.TheVariants as work
 use Rattle.node_device.specs.Rack.{OnlyAt}
 use Rattle.site_core.specs.declared.cache.Manifest.{Manifest}
-use Rattle.site_core.specs.Calls.{KeptAlike, Unturned}
+use Rattle.site_core.specs.Calls.{KeptAlike, Unturned, Unnumbered}
 use Rattle.site_core.specs.Holds.{IsSaving}
 use Rattle.site_core.specs.Shown.{running}
 use Rattle.site_core.specs.Stored.{cells_of, contents_of}
@@ -44,7 +44,9 @@ use Rattle.site_core.proofs.Gates.{both}
 use Rattle.site_core.proofs.SaveEnds.{seal_told}
 use Rattle.site_core.proofs.Seals.{sealing}
 use Rattle.site_core.proofs.Works.{opened_is}
-use Rattle.site_core.proofs.LeftStages.{IsLeft, Remains, remains, stage_left, left_apart, left_alike, whole_refused, sealed_refused, loose_left, loose_of}
+use Rattle.site_core.proofs.Numbering.{storing_at}
+use Rattle.site_core.proofs.Telling.{tells_all}
+use Rattle.site_core.proofs.LeftStages.{IsLeft, Remains, remains, stage_left, left_unnumbered, left_alike, whole_refused, sealed_refused, loose_left, loose_of}
 use Rattle.site_core.specs.declared.turn.Turn.{Turn}
 use Rattle.site_core.specs.declared.turn.Turn.TheVariants as turn
 use Rattle.site_core.specs.declared.error.SiteError.{SiteError}
@@ -100,12 +102,7 @@ module _ {D : Type 0} (state : D → DeviceState) (old new : Site D) (t : Troubl
   tells_end T may bay same told why = tells_one IsOfWorker may state old new (event.Stop (cause_of t)) is (ended_by t told)
       (subst (λ (b : Rack D). IsEndedFor may (states_of state old.bay) (states_of state b) (cause_of t)) (sym same) (ended_for T may (states_of state old.bay) (states_of state bay) t why))
 
-  -- what is left after a call that the prefix refused
-  prefix_left : (first : Machine) (bay : Rack D) → new.bay ≡ bay → ((p : ℕ) → p ≢ 32 → states_of state bay p ≡ states_of state old.bay p) → is_over old.core.stage ≡ false → (f : Follows state first old) → IsLeft old.core (states_of state new.bay) f.state
-  prefix_left first bay same apart on f = subst (λ (b : Rack D). IsLeft old.core (states_of state b) f.state) (sym same)
-      (left_apart old.core (states_of state old.bay) (states_of state bay) f.state apart (stage_left old.core.stage old.core (states_of state old.bay) f.state refl on f.holds))
-
-  -- and after a read or a sync that was refused
+  -- what is left after a read or a sync that was refused
   alike_left : (first : Machine) (place : ℕ) (bay : Rack D) → new.bay ≡ bay → OnlyAt place KeptAlike (states_of state old.bay) (states_of state bay) → is_over old.core.stage ≡ false → (f : Follows state first old) → IsLeft old.core (states_of state new.bay) f.state
   alike_left first place bay same done on f = subst (λ (b : Rack D). IsLeft old.core (states_of state b) f.state) (sym same)
       (left_alike old.core place (states_of state old.bay) (states_of state bay) f.state done (stage_left old.core.stage old.core (states_of state old.bay) f.state refl on f.holds))
@@ -118,9 +115,9 @@ module _ {D : Type 0} (state : D → DeviceState) (old new : Site D) (t : Troubl
     pub leads_so : (first : Machine) → Leads first (cut_core old.core) old.programs (states_of state new.bay) new.history.events → Follows state first new
     leads_so first l = subst (λ (x : Core). Leads first x new.programs (states_of state new.bay) new.history.events) (sym core) (subst (λ (ps : List (List Step)). Leads first (cut_core old.core) ps (states_of state new.bay) new.history.events) (sym programs) l)
 
-    pub ends_early : (old.core.stage ≡ stage.Begun) ⊎ (old.core.stage ≡ stage.Storing) → is_told t ≡ true → (bay : Rack D) → new.bay ≡ bay → ((p : ℕ) → p ≢ 32 → states_of state bay p ≡ states_of state old.bay p) → Keeps state old new
-    ends_early at told bay same apart tells first f =
-        leads_so first (cut_early first old.core old.programs (states_of state old.bay) (states_of state new.bay) old.history.events new.history.events (cause_of t) at (told_ends t told) is f (prefix_left first bay same apart (goes_on at) f))
+    pub ends_early : (old.core.stage ≡ stage.Begun) ⊎ (old.core.stage ≡ stage.Storing) → is_told t ≡ true → (bay : Rack D) → new.bay ≡ bay → OnlyAt 32 KeptAlike (states_of state old.bay) (states_of state bay) → Keeps state old new
+    ends_early at told bay same done tells first f =
+        leads_so first (cut_early first old.core old.programs (states_of state old.bay) (states_of state new.bay) old.history.events new.history.events (cause_of t) at (told_ends t told) is f (alike_left first 32 bay same done (goes_on at) f))
 
     pub ends_looking : old.core.stage ≡ stage.Looking → is_told t ≡ true → (place : ℕ) (bay : Rack D) → new.bay ≡ bay → OnlyAt place KeptAlike (states_of state old.bay) (states_of state bay) → Keeps state old new
     ends_looking at told place bay same done tells first f =
@@ -138,9 +135,10 @@ module _ {D : Type 0} (state : D → DeviceState) (old new : Site D) (t : Troubl
 
   -- the number's way may have changed with it
   pub ends_storing : (w : Way) → new.core ≡ (let x : Core = record old.core { stage = stage.Cut; storing = w } in x) → new.programs ≡ old.programs → old.core.stage ≡ stage.Storing → is_told t ≡ true
-      → (bay : Rack D) → new.bay ≡ bay → ((p : ℕ) → p ≢ 32 → states_of state bay p ≡ states_of state old.bay p) → Keeps state old new
-  ends_storing w core programs at told bay same apart tells first f =
-      let l = cut_early first old.core old.programs (states_of state old.bay) (states_of state new.bay) old.history.events new.history.events (cause_of t) (inr at) (told_ends t told) is f (prefix_left first bay same apart (ap is_over at) f) in
+      → (bay : Rack D) → new.bay ≡ bay → OnlyAt 32 (Unnumbered old.core.storing.want old.core.storing.changes) (states_of state old.bay) (states_of state bay) → Keeps state old new
+  ends_storing w core programs at told bay same done tells first f =
+      let l = cut_early first old.core old.programs (states_of state old.bay) (states_of state new.bay) old.history.events new.history.events (cause_of t) (inr at) (told_ends t told) is f (subst (λ (b : Rack D). IsLeft old.core (states_of state b) f.state) (sym same)
+      (left_unnumbered old.core (states_of state old.bay) (states_of state bay) f.state at (storing_at old.core.stage old.core (states_of state old.bay) f.state at f.holds) (tells_all state tells bay 32 (omega arith)) done)) in
       let m : Leads first (let x : Core = record old.core { stage = stage.Cut; storing = w } in x) old.programs (states_of state new.bay) new.history.events = record { state = l.state; run = l.run; holds = tt; told = l.told; left = l.left } in
       subst (λ (x : Core). Leads first x new.programs (states_of state new.bay) new.history.events) (sym core)
       (subst (λ (ps : List (List Step)). Leads first (let x : Core = record old.core { stage = stage.Cut; storing = w } in x) ps (states_of state new.bay) new.history.events) (sym programs) m)
@@ -187,7 +185,11 @@ module _ {D : Type 0} (state : D → DeviceState) (old : Site D) (n place : ℕ)
       record {
         made = e ∷ [];
         may = may_seal_first t fault step.0;
-        leaves = subst (λ (y : Machine). LeavesKept (setup_of c) c.places (states_of state bay) y) step.1 l;
+        same_run = ap (λ (y : Machine). y.run) (sym step.1);
+        leaves = subst (λ (y : Machine). LeavesKept (setup_of c) c.places (states_of state bay) y) step.1 l.leaves;
+        prefix = λ left out. let p = l.prefix left out in record { stored = p.stored; may = p.may; run = p.run; halt = p.halt };
+        later = l.later;
+        plain = record { mark = refl; pending = refl };
       } where
         may_seal_first : (t : Trouble) → is_device_fault t ≡ true → IsTrue (may (setup_of old.core) before (event.Sealing m.desc.which)) → IsTrue (may_make (setup_of old.core) before (cause_of t) (event.Sealing m.desc.which ∷ []))
         may_seal_first error.Memory f is = absurd (cc f)

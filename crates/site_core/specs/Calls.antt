@@ -1,5 +1,5 @@
 -- What single calls on a bay do to one device, as the moves of a site use them.
-use Rattle.std.specs.Prelude.{◌≡◌, ◌≢◌, ◌≤◌, ◌<◌, ◌↔◌, ℕ, Bool, true, false, List, length, Option, Some, set}
+use Rattle.std.specs.Prelude.{◌≡◌, ◌≢◌, ◌≤◌, ◌<◌, ◌↔◌, ℕ, Bool, true, false, List, length, Option, Some, set, codes}
 use Rattle.scr_base.specs.Stages.{left}
 use Rattle.scr_base.specs.declared.change.Change.{Change}
 use Rattle.scr_base.specs.declared.shape.DataId.{DataId}
@@ -7,6 +7,9 @@ use Rattle.member_store.specs.Calls.{RemovesAtMost, HasNoFile, IsDropStage}
 use Rattle.node_device.specs.File.{written, bytes_of, IsAtRest, IsPartlySynced, Torn}
 use Rattle.node_device.specs.DeviceState.{DeviceState, ChangesOnly, ReadsAlike}
 use Rattle.gated_record.specs.Record.{HasBody, HasShutGates, open_gate_byte}
+use Rattle.gated_record.specs.Frames.{ChangesPair}
+use Rattle.gated_record.specs.PairStages.{IsPairStage, PairLeaves, IsOldOrWanted}
+use Rattle.gated_record.specs.declared.pair.PairValue.{PairValue}
 
 -- nothing
 abbrev pub Same : DeviceState → DeviceState → Type 0
@@ -59,6 +62,11 @@ pub record Unturned (name : List ℕ) (gate : ℕ) (old new : DeviceState) : Typ
   pub refused : Refused name old new
   pub torn : Torn gate 1 (old.file name) (new.file name)
   pub only : ChangesOnly name old new
+
+-- a step of the run's number was refused: whatever a stop leaves, the old number stands or the wanted one
+pub record Unnumbered (want : PairValue) (before : Option (List Change)) (old new : DeviceState) : Type 0 where
+  pub leaves : (value : Option PairValue) → IsPairStage (codes "run") value want old before → new.tells ≡ true → PairLeaves (codes "run") new (IsOldOrWanted value want)
+  pub only : ChangesPair (codes "run") old new
 
 -- what reads give is the same, no file is less at rest, and a stop leaves no more
 pub record KeptAlike (old new : DeviceState) : Type 0 where

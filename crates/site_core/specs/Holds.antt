@@ -1,5 +1,5 @@
 -- What devices stand for between two runs, and what holds between two moves of a run.
-use Rattle.std.specs.Prelude.{◌≡◌, ◌≢◌, ◌⊎◌, ◌<◌, ◌≤◌, ◌+◌, ◌*◌, ◌^◌, nat_lt, nat_le, not, ◌==◌, ℕ, Bool, true, false, IsTrue, List, [], ◌∷◌, ◌++◌, map, fold, replicate, Option, None, Some, slice_get, codes}
+use Rattle.std.specs.Prelude.{◌≡◌, ◌≢◌, ◌⊎◌, ◌<◌, ◌≤◌, ◌+◌, ◌*◌, ◌^◌, nat_lt, nat_le, not, ◌&&◌, ◌==◌, ℕ, Bool, true, false, IsTrue, List, [], ◌∷◌, ◌++◌, map, fold, replicate, Option, None, Some, slice_get, codes}
 use Rattle.std.specs.List.{list_all, list_any}
 use Rattle.halt_file.specs.Conditions.{conditions}
 use Rattle.scr_base.specs.Sets.{numbers_below}
@@ -8,7 +8,7 @@ use Rattle.scr_base.specs.declared.content.Step.{Step}
 use Rattle.scr_base.specs.declared.content.Step.TheVariants as step
 use Rattle.node_device.specs.File.{IsAtRest}
 use Rattle.node_device.specs.DeviceState.{DeviceState}
-use Rattle.gated_record.specs.PairStages.{IsPairStage}
+use Rattle.gated_record.specs.PairStages.{IsPairStage, PairLeaves, IsOldOrWanted}
 use Rattle.gated_record.specs.declared.pair.PairValue.{PairValue}
 use Rattle.scr_base.specs.declared.answers.Refusal.{Refusal}
 use Rattle.scr_base.specs.declared.answers.Reply.TheVariants as reply
@@ -18,7 +18,7 @@ use Rattle.ckpt_model.specs.Dataset.{Dataset}
 use Rattle.ckpt_model.specs.declared.event.Event.TheVariants as event
 use Rattle.ckpt_model.specs.declared.event.StopCause.{StopCause}
 use Rattle.ckpt_model.specs.declared.event.StopCause.TheVariants as stops
-use Rattle.site_core.specs.Left.{LeavesSaved, NoneSealed, LeavesKept, is_sealing_work}
+use Rattle.site_core.specs.Left.{LeavesSaved, NoneSealed, LeavesKept, LeavesPrefix, NoLater, IsPlain, is_sealing_work}
 use Rattle.site_core.specs.Numbers.{IsNumberFile}
 use Rattle.site_core.specs.declared.core_state.Drop.{Drop}
 use Rattle.site_core.specs.declared.core_state.Drop.TheVariants as drop
@@ -28,7 +28,7 @@ use Rattle.ckpt_model.specs.Machine.{Machine, Setup, Stage as Place}
 use Rattle.ckpt_model.specs.Legal.{IsRunOf, AreOfPrograms, begins_run, is_stop}
 use Rattle.ckpt_model.specs.Legal.Place.{AtEnd}
 use Rattle.ckpt_model.specs.Runs.{RunsTo}
-use Rattle.ckpt_model.specs.Stops.{may_choose}
+use Rattle.ckpt_model.specs.Stops.{may_stop, may_make}
 use Rattle.ckpt_model.specs.Moves.{after}
 use Rattle.ckpt_model.specs.declared.event.Event.{Event}
 use Rattle.round_core.specs.Seats.{fresh_seat, is_complete, first_call, seat_is_valid}
@@ -105,6 +105,7 @@ pub record IsStoring (c : Core) (states : ℕ → DeviceState) (m : Machine) : T
   pub old_is : run_number old ≡ m.run
   pub want : c.storing.want ≡ record { version = c.run; body = [] }
   pub way : IsPairStage (codes "run") old c.storing.want (states 32) c.storing.changes
+  pub leaves : PairLeaves (codes "run") (states 32) (IsOldOrWanted old c.storing.want)
   pub quiet : (p : ℕ) (q : List ℕ) → p ≤ 32 → (p ≡ 32 → IsNumberFile q → ⊥) → IsAtRest ((states p).file q)
   pub rise : AscendFrom 1 (map settled_set sets)
   pub sets_are : (x : Manifest) → IsOneOf sets x → IsOfSite c.shape m.run x
@@ -355,8 +356,12 @@ pub record HasLeft (s : Setup) (first : Machine) (places : List ℕ) (states : �
   pub before : Machine
   pub run : RunsTo s first front before
   pub made : List Event
-  pub may : IsTrue (may_choose s before cause (record { made = made; entries = []; took = false; stored = false }))
+  pub may : IsTrue (may_stop before cause && may_make s before cause made)
+  pub same_run : (fold (after s) before made).run ≡ before.run
   pub leaves : LeavesKept s places states (fold (after s) before made)
+  pub prefix : LeavesPrefix (states 32) before
+  pub later : NoLater states before.run
+  pub plain : IsPlain before
 
 -- what is left of a run that was cut
 abbrev pub LeftAt : Stage → Setup → Machine → List ℕ → (ℕ → DeviceState) → List Event → Type 0

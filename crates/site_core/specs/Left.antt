@@ -1,23 +1,27 @@
 -- What a stop may leave of the datasets of a run.
-use Rattle.std.specs.Prelude.{◌≡◌, ◌≢◌, ◌<◌, ℕ, Bool, true, false, nat_le, List, map, Option, Some, None, slice_get}
+use Rattle.std.specs.Prelude.{◌≡◌, ◌≢◌, ◌<◌, ◌+◌, ℕ, Bool, true, false, IsTrue, nat_le, List, [], map, Option, Some, None, slice_get, codes, if◌then◌else◌}
 use Rattle.scr_base.specs.Sets.{numbers_below}
 use Rattle.scr_base.specs.declared.shape.DataId.{DataId}
 use Rattle.node_device.specs.File.{IsAtRest}
-use Rattle.node_device.specs.DeviceState.{DeviceState}
+use Rattle.node_device.specs.DeviceState.{DeviceState, IsOutcome}
 use Rattle.gated_record.specs.Record.{IsOpen}
+use Rattle.gated_record.specs.Pair.{pair_value}
+use Rattle.halt_file.specs.Stores.{halt_in}
 use Rattle.gate_outcomes.specs.Leaves.{Leaves}
 use Rattle.gate_outcomes.specs.Gates.{StaysShut, StaysOpen, StaysWhole}
 use Rattle.filemap.specs.Maps.{rows_of}
 use Rattle.filemap.specs.declared.rows.FileRow.{FileRow}
 use Rattle.member_store.specs.Names.{record_name, IsPlace}
 use Rattle.member_store.specs.Members.{member_body}
-use Rattle.ckpt_model.specs.Machine.{Machine, Setup}
+use Rattle.ckpt_model.specs.Machine.{Machine, Setup, Pending}
+use Rattle.ckpt_model.specs.Stops.{may_store, pending_of}
 use Rattle.site_core.specs.declared.cache.Cached.{Cached}
 use Rattle.site_core.specs.declared.cache.Manifest.{Manifest}
 use Rattle.site_core.specs.declared.core_state.Work.{Work}
 use Rattle.site_core.specs.declared.core_state.Work.TheVariants as work
+use Rattle.site_core.specs.Choosing.{AscendFrom}
 use Rattle.site_core.specs.Shown.{kept_of, is_doubtful}
-use Rattle.site_core.specs.Stored.{cells_of, contents_in, place_of_rank, file_name, FileStands, IsOfSite}
+use Rattle.site_core.specs.Stored.{cells_of, contents_in, place_of_rank, file_name, run_number, FileStands, IsOfSite}
 
 -- ## A dataset that is being saved
 
@@ -71,4 +75,28 @@ pub record LeavesKept (s : Setup) (places : List ℕ) (states : ℕ → DeviceSt
   pub kept : m.kept ≡ map (kept_of s (contents_in (cells_of states) places s.shape.ranks) places) sets
   pub places_are : places ≡ numbers_below s.shape.nodes
   pub of_site : (i : ℕ) (x : Cached) → slice_get sets i ≡ Some x → IsOfSite s.shape m.run x.manifest
+  pub rise : AscendFrom 1 sets
+  pub index : m.index ≡ []
   pub cache : LeavesCache places s.shape.ranks states sets
+
+-- ## The prefix
+
+-- what is left of the prefix tells the run's number, or the next one where that may have been stored, and the halt conditions
+pub record PrefixLeft (m : Machine) (left : List ℕ → Option (List ℕ)) : Type 0 where
+  pub stored : Bool
+  pub may : IsTrue (may_store m stored)
+  pub run : run_number (pair_value (codes "run") left) ≡ (if stored then m.run + 1 else m.run)
+  pub halt : halt_in (pair_value (codes "halt") left) ≡ m.halt
+
+-- no mark, and no command was cut short
+pub record IsPlain (m : Machine) : Type 0 where
+  pub mark : m.mark ≡ None
+  pub pending : pending_of m.stage ≡ Pending.Nothing
+
+-- no record of a later run is left
+abbrev pub NoLater : (ℕ → DeviceState) → ℕ → Type 0
+NoLater states run = (p : ℕ) (which : DataId) (node : ℕ) → p < 32 → IsPlace which node → run < which.run → Leaves ((states p).file (record_name which node)) (λ o. o ≡ None)
+
+-- whatever a stop leaves of the prefix tells that
+abbrev pub LeavesPrefix : DeviceState → Machine → Type 0
+LeavesPrefix prefix m = (left : List ℕ → Option (List ℕ)) → IsOutcome prefix left → PrefixLeft m left

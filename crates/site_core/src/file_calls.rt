@@ -1,12 +1,12 @@
 // What the moves do to a bay's devices, with the refusals as the site's.
-ghost use Rattle.std.specs.Prelude.{◌≡◌, ◌≢◌, ◌≤◌, ◌<◌, ◌+◌, ◌*◌, ℕ, List, IfOk, OnOk, OnErr, true, length, codes, take, drop};
+ghost use Rattle.std.specs.Prelude.{◌≡◌, ◌≤◌, ◌<◌, ◌+◌, ◌*◌, ℕ, List, IfOk, OnOk, OnErr, true, length, codes, take, drop};
 ghost use Rattle.node_device.specs.File.{bytes_of};
 ghost use Rattle.node_device.specs.Rack.{states_of, OnlyAt};
 ghost use Rattle.gated_record.specs.PairSteps.{StepsPair};
 ghost use Rattle.member_store.specs.Calls.{gate_number};
 ghost use Rattle.member_store.specs.Names.{record_name, part_name};
 ghost use Rattle.member_store.specs.Members.{AreMembers, member_body};
-ghost use Rattle.site_core.specs.Calls.{Same, Written, Synced, Recorded, Turned, Refused, Unrecorded, Unturned, KeptAlike, FileDropped};
+ghost use Rattle.site_core.specs.Calls.{Same, Written, Synced, Recorded, Turned, Refused, Unrecorded, Unturned, Unnumbered, KeptAlike, FileDropped};
 ghost use Rattle.site_core.specs.Causes.{CallCause};
 ghost use Rattle.site_core.specs.Writes.{IsWrite, IsNoWrite, PassesOn, WayWrites, MayWayWrite};
 ghost use Rattle.halt_file.specs.Conditions.{conditions};
@@ -30,7 +30,7 @@ use std::alloc::Global;
 /// The number of the last run, 0 for none.
 pub(crate) fn last_run<D: Device>(alloc: Global, bay: &mut Bay<D>) -> Result<u32, Trouble>
     ensures run { IfOk result (λ run. (states_of D.state bay.old 32).tells ≡ true → run ≡ stored_run (cells_of (states_of D.state bay.old))) }
-    ensures refused { OnErr result ((p : ℕ) → p ≢ 32 → states_of D.state bay.new p ≡ states_of D.state bay.old p) }
+    ensures refused { OnErr result (OnlyAt 32 KeptAlike (states_of D.state bay.old) (states_of D.state bay.new)) }
     ensures same { OnOk result (OnlyAt 32 Same (states_of D.state bay.old) (states_of D.state bay.new)) }
     ensures cause { CallCause IsNoWrite (states_of D.state bay.old) (states_of D.state bay.new) result }
 {
@@ -44,7 +44,7 @@ pub(crate) fn last_run<D: Device>(alloc: Global, bay: &mut Bay<D>) -> Result<u32
 /// The conditions on which jobs are to stop.
 pub(crate) fn halt_now<D: Device>(alloc: Global, bay: &mut Bay<D>) -> Result<Halt, Trouble>
     ensures halt { IfOk result (λ halt. (states_of D.state bay.old 32).tells ≡ true → conditions halt ≡ stored_halt (cells_of (states_of D.state bay.old))) }
-    ensures refused { OnErr result ((p : ℕ) → p ≢ 32 → states_of D.state bay.new p ≡ states_of D.state bay.old p) }
+    ensures refused { OnErr result (OnlyAt 32 KeptAlike (states_of D.state bay.old) (states_of D.state bay.new)) }
     ensures same { OnOk result (OnlyAt 32 Same (states_of D.state bay.old) (states_of D.state bay.new)) }
     ensures cause { CallCause IsNoWrite (states_of D.state bay.old) (states_of D.state bay.new) result }
 {
@@ -61,7 +61,7 @@ pub(crate) fn store_number<D: Device>(
     storing: &mut Storing,
 ) -> Result<bool, Trouble>
     ensures want { storing.new.want ≡ storing.old.want }
-    ensures refused { OnErr result ((p : ℕ) → p ≢ 32 → states_of D.state bay.new p ≡ states_of D.state bay.old p) }
+    ensures refused { OnErr result (OnlyAt 32 (Unnumbered storing.old.want storing.old.changes) (states_of D.state bay.old) (states_of D.state bay.new)) }
     ensures steps { IfOk result (λ over. OnlyAt 32 (λ a b. StepsPair (codes "run") storing.old.want (Rattle.std.specs.Prelude.Ok over) storing.old.changes storing.new.changes a b) (states_of D.state bay.old) (states_of D.state bay.new)) }
     ensures cause { CallCause (MayWayWrite storing.old) (states_of D.state bay.old) (states_of D.state bay.new) result }
     ensures fits { OnOk result ((p at count : ℕ) → (name : List ℕ) → WayWrites storing.old p name at count → PassesOn (states_of D.state bay.old) p name at count → ⊥) }

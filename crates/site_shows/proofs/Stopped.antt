@@ -1,8 +1,7 @@
 -- What a stop leaves of a run's datasets is shown.
-use Rattle.std.proofs.Common.{◌≡◌, ◌≢◌, ◌⊎◌, inl, inr, ℕ, zero, suc, ◌+◌, ◌*◌, ◌==◌, ◌<◌, Bool, true, false, List, [], ◌∷◌, map, length, Option, Some, None, refl, sym, ap, ◌∙◌, subst, slice_get, arith}
-use Rattle.std.specs.Prelude.{IsTrue, option_map, fold, if◌then◌else◌, ◌||◌}
+use Rattle.std.proofs.Common.{◌≡◌, ◌⊎◌, inl, inr, ℕ, suc, ◌+◌, ◌*◌, ◌==◌, ◌<◌, Bool, true, false, List, [], ◌∷◌, map, length, Option, Some, None, refl, sym, ap, ◌∙◌, subst, slice_get, arith}
+use Rattle.std.specs.Prelude.{IsTrue, ◌&&◌, ◌≤◌, option_map, fold, if◌then◌else◌, ◌||◌}
 use Rattle.std.specs.List.{list_any}
-use Rattle.std.proofs.lemmas.Bool.{cases_eq}
 use Rattle.std.proofs.lemmas.Bool.Decides.{nat_tests}
 use Rattle.std.proofs.lemmas.Option.{slice_get-map}
 use Rattle.scr_base.specs.Same.{same_id}
@@ -10,33 +9,35 @@ use Rattle.scr_base.specs.Sets.{numbers_below}
 use Rattle.scr_base.specs.declared.shape.DataId.{DataId}
 use Rattle.node_device.specs.File.{MayLeave, bytes_of, byte_at}
 use Rattle.node_device.specs.DeviceState.{DeviceState}
-use Rattle.gated_record.specs.Record.{HasBody, IsOpen, is_open, open_gate_byte}
+use Rattle.gated_record.specs.Record.{IsOpen, is_open, open_gate_byte}
 use Rattle.filemap.specs.Maps.{IsMap, rows_of}
 use Rattle.filemap.specs.declared.rows.FileRow.{FileRow}
 use Rattle.member_store.specs.Names.{record_name, IsPlace}
-use Rattle.member_store.specs.Members.{member_body}
 use Rattle.member_store.specs.declared.member.Member.{Member}
 use Rattle.ckpt_model.specs.Dataset.{Dataset, File}
-use Rattle.ckpt_model.specs.Machine.{Machine, Setup, Kept, MemberState}
-use Rattle.ckpt_model.specs.Loss.{has_no_home}
+use Rattle.ckpt_model.specs.Machine.{Machine, Setup, Kept, Entry, Pending, MemberState}
 use Rattle.ckpt_model.specs.Moves.{after as after_event}
 use Rattle.ckpt_model.specs.Questions.{is_kept, is_id_of}
-use Rattle.ckpt_model.specs.Stops.{after_stop}
-use Rattle.ckpt_model.specs.Shows.{BayView, ShowsMembers, IsMemberAt, StandsAtHome, IsOfKept, IsLeftOver}
+use Rattle.ckpt_model.specs.Stops.{Choice, after_stop, may_stop, may_make, may_store, may_choose, index_left, halt_left, mark_left, pending_of}
+use Rattle.ckpt_model.specs.Proper.{IsProper}
+use Rattle.ckpt_model.specs.Shows.{BayView, ShowsMembers, IsMemberAt, IsEntryAt, StandsAtHome, IsOfKept, IsLeftOver}
 use Rattle.ckpt_model.specs.declared.event.Event.{Event}
 use Rattle.ckpt_model.proofs.Plays.{same_id_is}
 use Rattle.ckpt_model.proofs.ShowsLemmas.{mapped_at}
 use Rattle.site_core.specs.declared.cache.Cached.{Cached}
 use Rattle.site_core.specs.declared.cache.Manifest.{Manifest}
-use Rattle.site_core.specs.Shown.{Contents, kept_of, set_of, rank_files, all_files, is_doubtful}
-use Rattle.site_core.specs.Stored.{Cells, cells_of, contents_in, is_named, place_of_rank, file_name, FilesStand}
-use Rattle.site_core.specs.Left.{LeavesKept, IsNoneOf}
+use Rattle.site_core.specs.Shown.{Contents, kept_of, set_of, rank_files, all_files}
+use Rattle.site_core.specs.Stored.{cells_of, contents_in, is_named, place_of_rank, file_name, FilesStand}
+use Rattle.site_core.specs.Left.{LeavesKept, PrefixLeft, IsNoneOf}
 use Rattle.site_core.specs.Holds.{HasLeft}
 use Rattle.site_core.proofs.Frames.{is_place}
 use Rattle.site_core.proofs.Puts.{few_nodes}
 use Rattle.site_core.proofs.LeftCaches.{low_place}
 use Rattle.site_core.proofs.LeftFiles.{gate_opens, home_or_not}
-use Rattle.site_shows.specs.View.{ReadsAt, Opens, Seals, Says, IsMemberOf, store_view}
+use Rattle.site_shows.specs.Fits.{IsFit}
+use Rattle.site_shows.specs.AfterStop.{IsShownAfter, choice_of}
+use Rattle.site_shows.specs.View.{ReadsAt, Opens, Seals, Says, IsMemberOf, Names, store_view}
+use Rattle.site_shows.proofs.Proper.{proper_kept}
 use Rattle.site_shows.proofs.Contents.{names_are, lengths_are, long_are, node_holds}
 use Rattle.site_shows.proofs.Kept.{home_of, home_below, home_is, at_home, IsIn, NotIn, is_in}
 use Rattle.site_shows.proofs.Showing.{alone}
@@ -106,7 +107,7 @@ module _ (s : Setup) (states after : ℕ → DeviceState) (m : Machine) (h : Lea
   dataset_same i x at =
       ap (λ (files : List (List File)). let d : Dataset = set_of s bytes x.manifest in record d { files = files }) (rows_same (bytes x.manifest.desc.which) (bytes_then x.manifest.desc.which) 0 x.manifest.files (λ k j row there. ap (λ (n : ℕ). bytes x.manifest.desc.which n j) (let e : 0 + k ≡ k = omega arith in e) ∙ same_bytes i x at k j row there ∙ ap (λ (n : ℕ). bytes_then x.manifest.desc.which n j) (let e : k ≡ 0 + k = omega arith in e)))
 
-  -- what a node's record then reads as
+  -- what a node's record state_then reads as
   abbrev member_at : Manifest → ℕ → ℕ → Member
   member_at x node p = record { which = x.desc.which; node = node; whole = true; sealed = is_open (cells_of after p (record_name x.desc.which node)) 1; desc = x.desc; files = x.files }
 
@@ -251,8 +252,95 @@ module _ (s : Setup) (states after : ℕ → DeviceState) (m : Machine) (h : Lea
 
 -- ## After a run that was cut
 
-pub left_shown : (s : Setup) (first : Machine) (places : List ℕ) (states after : ℕ → DeviceState) (events : List Event) (left : HasLeft s first places states events) → ((p : ℕ) (q : List ℕ) → p < 32 → MayLeave ((states p).file q) ((after p).file q).now)
-    → ShowsMembers (store_view s.shape after) (after_stop s left.before (record { made = left.made; entries = []; took = false; stored = false }))
+module _ (s : Setup) (first : Machine) (states after : ℕ → DeviceState) (events : List Event) (left : HasLeft s first (numbers_below s.shape.nodes) states events) (outcome : (p : ℕ) (q : List ℕ) → p ≤ 32 → MayLeave ((states p).file q) ((after p).file q).now) where
+  abbrev reached : Machine
+  reached = fold (after_event s) left.before left.made
+
+  prefix : PrefixLeft left.before (λ q. ((after 32).file q).now)
+  prefix = left.prefix (λ q. ((after 32).file q).now) (λ q. outcome 32 q (omega arith))
+
+  abbrev choice : Choice
+  choice = choice_of left.made prefix.stored
+
+  abbrev state_then : Machine
+  state_then = after_stop s left.before choice
+
+  no_index : state_then.index ≡ []
+  no_index = ap (λ (es : List Entry). index_left (pending_of left.before.stage) [] es) left.leaves.index
+
+  run_is : state_then.run ≡ (if prefix.stored then left.before.run + 1 else left.before.run)
+  run_is = refl
+
+  run_up : left.before.run ≤ state_then.run
+  run_up = pick prefix.stored where
+    pick : (b : Bool) → left.before.run ≤ (if b then left.before.run + 1 else left.before.run)
+    pick true = omega arith
+    pick false = omega arith
+
+  halt_is : state_then.halt ≡ left.before.halt
+  halt_is = ap (λ (p : Pending). halt_left p false left.before.halt) left.plain.pending
+
+  mark_is : state_then.mark ≡ None
+  mark_is = ap (λ (p : Pending). mark_left p false left.before.mark) left.plain.pending ∙ left.plain.mark
+
+  no_later : (run : ℕ) → Names s.shape (cells_of after) run → run ≤ state_then.run
+  no_later run o = pick (below_or_not left.before.run run) where
+    which : DataId
+    which = o.1
+
+    node : ℕ
+    node = o.2
+
+    r : ReadsAt s.shape (cells_of after) o.0 o.1 o.2 o.3
+    r = o.4
+
+    below_or_not : (a b : ℕ) → (a < b) ⊎ (b ≤ a)
+    below_or_not a b = grind arith
+
+    place : IsPlace o.1 o.2
+    place = subst (λ (w : DataId). IsPlace w o.2) (r.reads.member.which ∙ r.which_is) (is_place o.3.desc o.2 (omega (arith, r.reads.member.node, r.reads.member.nodes, r.node_is, few_nodes s.shape)))
+
+    there : cells_of after o.0 (record_name o.1 o.2) ≡ None → ⊥
+    there none = absurd (omega (arith, r.reads.body.whole, ap (λ (x : Option (List ℕ)). length (bytes_of x)) none))
+
+    pick : (left.before.run < run) ⊎ (run ≤ left.before.run) → run ≤ state_then.run
+    pick (inl later) = absurd (there (left.later o.0 o.1 o.2 r.place place (omega (arith, later, o.5)) (cells_of after o.0 (record_name o.1 o.2)) (outcome o.0 (record_name o.1 o.2) (omega (arith, r.place)))))
+    pick (inr le) = omega (arith, le, run_up)
+
+  members : ShowsMembers (store_view s.shape after) state_then
+  members = members_shown s states after reached left.leaves (λ p q low. outcome p q (omega (arith, low))) state_then refl
+
+  is_proper : IsFit s state_then → IsProper s state_then
+  is_proper fit = proper_kept s state_then (contents_in (cells_of states) (numbers_below s.shape.nodes) s.shape.ranks) left.leaves.sets (record {
+    kept = left.leaves.kept;
+    index = no_index;
+    rise = left.leaves.rise;
+    of_site = λ i x at. let of = left.leaves.of_site i x at in record { named = of.named; nodes = of.nodes; ranks = of.ranks; files = of.files; run_is = omega (arith, of.run_is, left.same_run, run_up) };
+  }) fit
+
+  no_entry : (e : Entry) → IsEntryAt state_then e → ⊥
+  no_entry e at = absurd (let x : None ≡ Some e = sym (ap (λ (es : List Entry). slice_get es at.place) no_index) ∙ at.entry in cc x)
+
+  shown_after : IsShownAfter s left.before left.cause after
+  shown_after = record {
+    choice = choice;
+    may = may_be left.may prefix.may;
+    shown = λ fit. record {
+      proper = is_proper fit;
+      members = members;
+      prefix = record {
+        present = λ e at. absurd (no_entry e at);
+        exact = λ which failed l. absurd l;
+        run = prefix.run;
+        halt = prefix.halt ∙ sym halt_is;
+        mark = sym mark_is;
+        no_later = no_later;
+      };
+    };
+  } where
+    may_be : IsTrue (may_stop left.before left.cause && may_make s left.before left.cause left.made) → IsTrue (may_store left.before prefix.stored) → IsTrue (may_choose s left.before left.cause choice)
+    may_be a b = rw (a, b) refl
+
+pub left_shown : (s : Setup) (first : Machine) (places : List ℕ) (states after : ℕ → DeviceState) (events : List Event) (left : HasLeft s first places states events) → ((p : ℕ) (q : List ℕ) → p ≤ 32 → MayLeave ((states p).file q) ((after p).file q).now) → IsShownAfter s left.before left.cause after
 left_shown s first ps states after events left outcome =
-    let m = fold (after_event s) left.before left.made in
-    members_shown s states after m (subst (λ (at : List ℕ). LeavesKept s at states m) left.leaves.places_are left.leaves) outcome (after_stop s left.before (record { made = left.made; entries = []; took = false; stored = false })) refl
+    subst (λ (at : List ℕ). (l : HasLeft s first at states events) → IsShownAfter s l.before l.cause after) (sym left.leaves.places_are) (λ l. shown_after s first states after events l outcome) left

@@ -1,12 +1,12 @@
-ghost use Rattle.std.specs.Prelude.{◌≤◌, ◌<◌, ℕ, List, [], false};
+ghost use Rattle.std.specs.Prelude.{◌≤◌, ℕ, List};
 ghost use Rattle.ckpt_model.specs.Machine.{Machine, Setup, empty_machine};
 ghost use Rattle.ckpt_model.specs.Proper.{IsProper};
-ghost use Rattle.ckpt_model.specs.Shows.{Shows, ShowsMembers};
-ghost use Rattle.ckpt_model.specs.Stops.{after_stop};
+ghost use Rattle.ckpt_model.specs.Shows.{Shows};
 ghost use Rattle.ckpt_model.specs.declared.event.Event.{Event};
 ghost use Rattle.node_device.specs.File.{IsEmpty, MayLeave};
 ghost use Rattle.node_device.specs.DeviceState.{DeviceState};
 ghost use Rattle.site_core.specs.Holds.{StandsFor, HasLeft};
+ghost use Rattle.site_shows.specs.AfterStop.{IsShownAfter};
 ghost use Rattle.site_shows.specs.Fits.{IsFit};
 ghost use Rattle.site_shows.specs.View.{store_view};
 
@@ -21,10 +21,10 @@ pub fn proper_is_fit()
     ensures { (s : Setup) (states : ℕ → DeviceState) (m : Machine) → StandsFor s states m → IsProper s m → IsFit s m }
 {}
 
-/// Once a run was cut, whatever a stop of the nodes leaves shows the members of a state after that Stop: the one that the stop chooses which
-/// takes the change of a gate as made that the device refused, if there was one.
+/// Once a run was cut, whatever a stop leaves shows a state after that Stop to the machine, where what no file tells of that state is right. The
+/// choice of the stop takes the change of a gate as made that the device refused, if there was one, and the run's number as stored where it is.
 pub fn what_a_stop_leaves_is_shown()
-    ensures { (s : Setup) (first : Machine) (places : List ℕ) (states after : ℕ → DeviceState) (events : List Event) (left : HasLeft s first places states events) → ((p : ℕ) (q : List ℕ) → p < 32 → MayLeave ((states p).file q) ((after p).file q).now) → ShowsMembers (store_view s.shape after) (after_stop s left.before (record { made = left.made; entries = []; took = false; stored = false })) }
+    ensures { (s : Setup) (first : Machine) (places : List ℕ) (states after : ℕ → DeviceState) (events : List Event) (left : HasLeft s first places states events) → ((p : ℕ) (q : List ℕ) → p ≤ 32 → MayLeave ((states p).file q) ((after p).file q).now) → IsShownAfter s left.before left.cause after }
 {}
 
 /// Devices that hold nothing stand for the state after no run.

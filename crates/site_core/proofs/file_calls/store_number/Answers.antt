@@ -27,3 +27,15 @@ returns-in-Err-Full-clause-cause g c =
       passes = way_full way.want c.step_number.new.storing.changes (old 32) (new 32) way.changes w;
       calm = calm_at 32 old new c.in-Err-Full.ensures.steps.others w.cause;
     }
+
+pub returns-in-Err-Full-clause-refused : goal.returns-in-Err-Full-clause-refused
+returns-in-Err-Full-clause-refused g c = record {
+  here = record { leaves = λ value stage. (c.in-Err-Full.ensures.steps.here.goes value stage).leaves; only = c.in-Err-Full.ensures.steps.here.only };
+  others = c.in-Err-Full.ensures.steps.others;
+}
+
+pub returns-in-Err-clause-refused : goal.returns-in-Err-clause-refused
+returns-in-Err-clause-refused g c = record {
+  here = record { leaves = λ value stage. (c.in-Err.ensures.steps.here.goes value stage).leaves; only = c.in-Err.ensures.steps.here.only };
+  others = c.in-Err.ensures.steps.others;
+}

@@ -20,7 +20,7 @@ pub returns-then-not-over-clause-run : goal.returns-then-not-over-clause-run
 returns-then-not-over-clause-run g c = λ tells first f.
     let s = c.args.self.now in
     let state = g.D.Device.state in
-    let l = stepped first s.core s.programs (states_of state s.bay) (states_of state c.store_number.new.bay) s.history.events c.in-Ok.over c.store_number.new.storing c.requires c.store_number.ensures.want c.in-Ok.ensures.steps f in
+    let l = stepped first s.core s.programs (states_of state s.bay) (states_of state c.store_number.new.bay) s.history.events c.in-Ok.over c.store_number.new.storing c.requires c.store_number.ensures.want c.in-Ok.ensures.steps (tells_all state tells c.store_number.new.bay 32 (omega arith)) f in
     subst (λ (es : List Event). Leads first (record s.core { storing = c.store_number.new.storing }) s.programs (states_of state c.store_number.new.bay) es) (sym c.reserve.ensures.events) l
 
 pub returns-in_ok-push-in-Ok-clause-run : goal.returns-in_ok-push-in-Ok-clause-run
