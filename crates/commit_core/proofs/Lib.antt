@@ -8,3 +8,4 @@ pub mod Index
 pub mod Kept
 pub mod Searched
 pub mod SetLengths
+pub mod Claimable

@@ -16,7 +16,7 @@ use Rattle.commit_core.specs.Pieces.{set_lengths}
 length-ranks : (nodes ranks size group local : ℕ) → length (ranks_of_set nodes ranks size group local) ≡ length (nodes_of_group nodes size group)
 length-ranks nodes ranks size group local = length-map (nodes_of_group nodes size group) (λ i. i * ranks + local)
 
-length-lengths : (nodes ranks size group local : ℕ) (lengths : List ℕ) → length (set_lengths nodes ranks size group local lengths) ≡ length (nodes_of_group nodes size group)
+pub length-lengths : (nodes ranks size group local : ℕ) (lengths : List ℕ) → length (set_lengths nodes ranks size group local lengths) ≡ length (nodes_of_group nodes size group)
 length-lengths nodes ranks size group local lengths =
     length-map (ranks_of_set nodes ranks size group local) (slice_index lengths) ∙ length-ranks nodes ranks size group local
 

@@ -1,10 +1,12 @@
-ghost use Rattle.std.specs.Prelude.{◌≡◌, ◌<◌, ℕ, List, filter, length, map};
+ghost use Rattle.std.specs.Prelude.{◌≡◌, ◌<◌, ◌≤◌, ℕ, List, All, Contains, filter, length, map, IsTrue};
 ghost use Rattle.scr_base.specs.declared.shape.Scheme.{Scheme};
-ghost use Rattle.scr_base.specs.Sets.{group_count};
+ghost use Rattle.scr_base.specs.Sets.{group_count, nodes_of_group, fits_sets};
 ghost use Rattle.partner_copy.specs.declared.Held.{Held};
 ghost use Rattle.member_shares.specs.Shares.{IsMember, IsSet, AreBytes};
+ghost use Rattle.commit_core.specs.Claims.{is_claim};
 ghost use Rattle.commit_core.specs.Deposits.{IsPiece, AreInputsOf, IsPartAt, place_of};
-ghost use Rattle.commit_core.specs.Pieces.{set_lengths, pieces_of_member, pieces_of, is_kept_by, place_of_piece, FollowOn};
+ghost use Rattle.commit_core.specs.PieceInputs.{input_count};
+ghost use Rattle.commit_core.specs.Pieces.{set_lengths, pieces_of_member, pieces_of_set, pieces_of, is_kept_by, place_of_piece, FollowOn};
 ghost use Rattle.commit_core.specs.declared.claim.Claim.{Claim};
 ghost use Rattle.commit_core.specs.declared.deposit.Deposit.{Deposit};
 ghost use Rattle.commit_core.specs.declared.piece.Piece.{Piece};
@@ -28,4 +30,14 @@ pub fn pieces_are_kept()
         → FollowOn (place_of_piece scheme streams) 0 (length held.share) (pieces_of_member scheme local group (map (length {A = ℕ}) streams) i) }
     ensures place { (claim : Claim) (piece : Piece) (streams : List (List ℕ)) → claim.stripe ≡ piece.stripe → claim.target ≡ piece.target → claim.at ≡ piece.at
         → place_of claim streams ≡ place_of_piece claim.scheme streams piece }
+{}
+
+/// A piece can be claimed: with as many inputs as a stripe of its set has data segments, or for PARTNER one, each as
+/// long as the piece, its stripe and its target make a claim. So for the pieces of one set, whose size may have the
+/// scheme, and for those of a dataset on sets that all may have it. For the crates above. It does nothing.
+pub fn pieces_fit_claims()
+    ensures of_set { (scheme : Scheme) (local group : ℕ) (lengths : List ℕ) (piece : Piece) (inputs : List (List ℕ)) → IsSet scheme (length lengths) → Contains (pieces_of_set scheme local group lengths) piece
+        → length inputs ≡ input_count scheme (length lengths) → All (λ input. length input ≡ piece.len) inputs → IsTrue (is_claim scheme piece.stripe piece.target inputs) }
+    ensures of_dataset { (scheme : Scheme) (nodes ranks size : ℕ) (lengths : List ℕ) (piece : Piece) (inputs : List (List ℕ)) → 1 ≤ nodes → nodes ≤ 16 → IsTrue (fits_sets scheme size nodes) → Contains (pieces_of scheme nodes ranks size lengths) piece
+        → length inputs ≡ input_count scheme (length (nodes_of_group nodes size piece.group)) → All (λ input. length input ≡ piece.len) inputs → IsTrue (is_claim scheme piece.stripe piece.target inputs) }
 {}
