@@ -1,6 +1,6 @@
 -- A piece can be claimed.
-use Rattle.std.proofs.Common.{◌≡◌, ℕ, zero, suc, ◌+◌, ◌-◌, ◌<◌, ◌≤◌, ◌==◌, Bool, true, ◌&&◌, IsTrue, nat_le, nat_lt, List, [], ◌∷◌, ◌++◌, length, map, slice_index_or, All, Contains, add-one, refl, sym, ap, subst, ◌∙◌, arith}
-use Rattle.std.specs.List.{filter, flat_map, list_all}
+use Rattle.std.proofs.Common.{◌≡◌, ℕ, zero, suc, ◌+◌, ◌-◌, ◌<◌, ◌≤◌, ◌==◌, Bool, true, ◌&&◌, IsTrue, nat_le, nat_lt, List, [], ◌∷◌, ◌++◌, length, slice_index_or, All, Contains, add-one, refl, sym, ap, subst, ◌∙◌, arith}
+use Rattle.std.specs.List.{filter, flat_map}
 use Rattle.std.proofs.lemmas.Bool.{and_from, eq-eqb, leb-true, le-leb, lt-ltb}
 use Rattle.std.proofs.lemmas.List.{append-nil}
 use Rattle.std.proofs.lemmas.List.Elements.{All-nil, All-cons, All-append, All-map, All-from_get_or}
@@ -12,16 +12,15 @@ use Rattle.scr_base.specs.Sets.{numbers_below, group_count, nodes_of_group, fits
 use Rattle.member_shares.specs.Layout.{holds_parity}
 use Rattle.member_shares.specs.Shares.{IsSet, segment_length}
 use Rattle.member_shares.proofs.Ranks.{has_rank}
-use Rattle.member_shares.proofs.Places.{holds_some}
 use Rattle.commit_core.specs.Claims.{input_length, have_one_length, fits_members, is_stripe_claim, is_claim}
-use Rattle.commit_core.specs.PieceInputs.{input_count}
+use Rattle.commit_core.specs.PieceClaims.{input_count}
 use Rattle.commit_core.specs.Pieces.{whole_piece, in_stripe, parity_pieces, length_before, pieces_of_member, pieces_of_set, set_lengths, pieces_of_local, pieces_of}
 use Rattle.commit_core.specs.declared.piece.Piece.{Piece}
 use Rattle.commit_core.proofs.Listed.{numbers_more}
 use Rattle.commit_core.proofs.SetLengths.{set_is, length-lengths}
 
 -- what holds of the elements of lists holds of those of the lists one behind the other
-all_flat : {X : Type 0} (P : X → Type 0) (f : ℕ → List X) (m : ℕ) → ((j : ℕ) → j < m → All P (f j)) → All P (flat_map f (numbers_below m))
+pub all_flat : {X : Type 0} (P : X → Type 0) (f : ℕ → List X) (m : ℕ) → ((j : ℕ) → j < m → All P (f j)) → All P (flat_map f (numbers_below m))
 all_flat P f zero each = All-nil P
 all_flat P f (suc m) each =
     let more : numbers_below (suc m) ≡ numbers_below m ++ m ∷ [] = let e = numbers_more m in rw (add-one) at e in
@@ -51,7 +50,7 @@ stripe_fits p stripe target count n all some few h l held =
     (and_from (nat_le 1 count && nat_le m 16) (nat_lt stripe m) (and_from (nat_le 1 count) (nat_le m 16) a b) c) d) e
 
 -- what holds wherever the target has parity holds of each of its pieces
-all_parity : (P : Piece → Type 0) (n p : ℕ) (piece : Piece) → ((s : ℕ) → s < n → holds_parity n p s piece.target ≡ true → P (in_stripe piece s))
+pub all_parity : (P : Piece → Type 0) (n p : ℕ) (piece : Piece) → ((s : ℕ) → s < n → holds_parity n p s piece.target ≡ true → P (in_stripe piece s))
     → All P (parity_pieces n p piece)
 all_parity P n p piece each =
     let held : ℕ → Bool = λ s. holds_parity n p s piece.target in

@@ -9,3 +9,4 @@ pub mod Kept
 pub mod Searched
 pub mod SetLengths
 pub mod Claimable
+pub mod Joined

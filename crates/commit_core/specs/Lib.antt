@@ -2,5 +2,5 @@ pub mod Claims
 pub mod Deposits
 pub mod LedgerBook
 pub mod LedgerIndex
-pub mod PieceInputs
+pub mod PieceClaims
 pub mod Pieces

@@ -1,11 +1,12 @@
-ghost use Rattle.std.specs.Prelude.{◌≡◌, ◌<◌, ◌≤◌, ℕ, List, All, Contains, filter, length, map, IsTrue};
+ghost use Rattle.std.specs.Prelude.{◌≡◌, ◌<◌, ◌≤◌, ℕ, List, All, Contains, filter, flat_map, length, map, IsTrue};
+ghost use Rattle.std.specs.List.{AllZip};
 ghost use Rattle.scr_base.specs.declared.shape.Scheme.{Scheme};
 ghost use Rattle.scr_base.specs.Sets.{group_count, nodes_of_group, fits_sets};
 ghost use Rattle.partner_copy.specs.declared.Held.{Held};
 ghost use Rattle.member_shares.specs.Shares.{IsMember, IsSet, AreBytes};
 ghost use Rattle.commit_core.specs.Claims.{is_claim};
 ghost use Rattle.commit_core.specs.Deposits.{IsPiece, AreInputsOf, IsPartAt, place_of};
-ghost use Rattle.commit_core.specs.PieceInputs.{input_count};
+ghost use Rattle.commit_core.specs.PieceClaims.{input_count, AsksFor};
 ghost use Rattle.commit_core.specs.Pieces.{set_lengths, pieces_of_member, pieces_of_set, pieces_of, is_kept_by, place_of_piece, FollowOn};
 ghost use Rattle.commit_core.specs.declared.claim.Claim.{Claim};
 ghost use Rattle.commit_core.specs.declared.deposit.Deposit.{Deposit};
@@ -40,4 +41,16 @@ pub fn pieces_fit_claims()
         → length inputs ≡ input_count scheme (length lengths) → All (λ input. length input ≡ piece.len) inputs → IsTrue (is_claim scheme piece.stripe piece.target inputs) }
     ensures of_dataset { (scheme : Scheme) (nodes ranks size : ℕ) (lengths : List ℕ) (piece : Piece) (inputs : List (List ℕ)) → 1 ≤ nodes → nodes ≤ 16 → IsTrue (fits_sets scheme size nodes) → Contains (pieces_of scheme nodes ranks size lengths) piece
         → length inputs ≡ input_count scheme (length (nodes_of_group nodes size piece.group)) → All (λ input. length input ≡ piece.len) inputs → IsTrue (is_claim scheme piece.stripe piece.target inputs) }
+{}
+
+/// The deposit of a claim that asks for a piece is as long as the piece, and is the part of what its target keeps that
+/// stands at the piece's place. So the deposits for all pieces of a member, one behind the other, are all that it
+/// keeps. For the crates above. It does nothing.
+pub fn deposits_make_shares()
+    ensures size { (scheme : Scheme) (streams : List (List ℕ)) (piece : Piece) (deposit : Deposit) → AsksFor scheme streams piece deposit.claim → length deposit.bytes ≡ piece.len }
+    ensures part { (scheme : Scheme) (streams : List (List ℕ)) (piece : Piece) (deposit : Deposit) (held : Held) → AsksFor scheme streams piece deposit.claim → IsMember scheme streams piece.target held
+        → IsPartAt (place_of_piece scheme streams piece) held.share deposit.bytes }
+    ensures whole { (scheme : Scheme) (local group i : ℕ) (streams : List (List ℕ)) (held : Held) (deposits : List Deposit) → IsSet scheme (length streams) → i < length streams → IsMember scheme streams i held
+        → AllZip (λ piece deposit. AsksFor scheme streams piece deposit.claim) (pieces_of_member scheme local group (map (length {A = ℕ}) streams) i) deposits
+        → flat_map (λ deposit. deposit.bytes) deposits ≡ held.share }
 {}

@@ -18,7 +18,7 @@ mod working;
 
 pub use claim::Claim;
 pub use deposit::Deposit;
-pub use laws::{deposits_are_shares, pieces_are_kept, pieces_fit_claims};
+pub use laws::{deposits_are_shares, deposits_make_shares, pieces_are_kept, pieces_fit_claims};
 pub use ledger::Ledger;
 pub use listing::pieces_of;
 pub use piece::Piece;
