@@ -20,7 +20,7 @@ use Rattle.commit_core.proofs.Listed.{numbers_more}
 use Rattle.commit_core.proofs.SetLengths.{set_is, length-lengths}
 
 -- what holds of the elements of lists holds of those of the lists one behind the other
-pub all_flat : {X : Type 0} (P : X → Type 0) (f : ℕ → List X) (m : ℕ) → ((j : ℕ) → j < m → All P (f j)) → All P (flat_map f (numbers_below m))
+all_flat : {X : Type 0} (P : X → Type 0) (f : ℕ → List X) (m : ℕ) → ((j : ℕ) → j < m → All P (f j)) → All P (flat_map f (numbers_below m))
 all_flat P f zero each = All-nil P
 all_flat P f (suc m) each =
     let more : numbers_below (suc m) ≡ numbers_below m ++ m ∷ [] = let e = numbers_more m in rw (add-one) at e in

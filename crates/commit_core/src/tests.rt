@@ -281,4 +281,6 @@ fn a_ledger_of_no_pieces_is_done(rt: HostRuntime) -> Result<(), Fail> {
 fn the_laws_are_there() {
     deposits_are_shares();
     pieces_are_kept();
+    pieces_fit_claims();
+    deposits_make_shares();
 }
