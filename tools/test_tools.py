@@ -1,0 +1,184 @@
+"""Tests of ./scr and of the tools beside it. tools/check.py runs them; by themselves: python3 -m unittest, in tools/."""
+import os
+import subprocess
+import sys
+import tempfile
+import unittest
+import xml.etree.ElementTree as tree
+from pathlib import Path
+
+import explain
+import history
+import timeline
+
+TOP = Path(__file__).resolve().parent.parent
+SVG = "{http://www.w3.org/2000/svg}"
+
+# A line of each kind that no example has yet.
+KINDS = """run 2 at 1,0
+emptied 2
+found 1.1:0+1 2.1:- | 1.1:flushed 2.1:failed
+discarding 1.1
+discarded 1.1
+evicting 2.1
+evicted 2.1
+fetching 1.1
+fetched 1.1
+flushing 1.1
+indexing 1.1
+flushed 1.1
+givenup 1.1 full 32 9 10
+failing 1.1
+failed 1.1
+local 3 2 write = 7 text = = ok
+reply 0 3 bytes -
+stop device 1 2
+lost 1
+scavenging 3.2
+scavenged 3.2
+scavenged none
+scavenge cut
+index list = 3.2/a/flushed/both* 1.1/b/failed/ckpt
+index drop 1 = noentry
+halt reason x = full 32 1 2
+stop command
+run 3 at 0
+stop script
+""".splitlines(keepends=True)
+
+
+def told(name):
+    return (TOP / f"examples/{name}.history").read_text()
+
+
+def named(*names):
+    return sorted(path.stem for path in (TOP / "examples").glob("*.scr")) if not names else names
+
+
+def tool(name, text, *words):
+    done = subprocess.run([sys.executable, "-B", str(TOP / "tools" / name), *words], input=text.encode(), capture_output=True)
+    return done.returncode, done.stdout.decode(), done.stderr.decode()
+
+
+class Lines(unittest.TestCase):
+    def test_each_kind_of_line_is_read_as_that_kind(self):
+        for line in KINDS:
+            kind = history.event_of(line[:-1]).kind
+            self.assertTrue(line.startswith(kind) or (kind == "scavenged" and line.startswith("scavenge ")), line)
+
+    def test_what_is_no_history_is_refused_with_its_line(self):
+        wrong = ["run 01 at 0", "run 1 at", "found", "call 0 1 fly", "reply 0 1 maybe", "decided read ok", "stop", "Run 1 at 0", "", "local 0 2 read f 0 3 = bytes ABCD"]
+        for line in wrong:
+            with self.assertRaisesRegex(history.NoHistory, "line 2 "):
+                history.read(f"found |\n{line}\nstop ended\n")
+        with self.assertRaisesRegex(history.NoHistory, "line 2 has no line feed"):
+            history.read("found |\nstop ended")
+
+    def test_the_last_equals_sign_parts_step_and_answer(self):
+        event = history.event_of("local 0 2 write = 7 text = = full 1 2 3")
+        self.assertEqual((event.fields["step"], event.fields["answer"]), ("write = 7 text =", "full 1 2 3"))
+
+
+class Pictures(unittest.TestCase):
+    def picture(self, text):
+        events = history.read(text)
+        return events, tree.fromstring(timeline.Picture(events).text())
+
+    def check(self, text):
+        events, root = self.picture(text)
+        marks = [it for it in root.iter(f"{SVG}g") if it.get("class") == "event"]
+        self.assertEqual([it.find(f"{SVG}title").text for it in marks], [event.line for event in events])
+        self.assertEqual([it.get("id") for it in marks], [f"e{at + 1}" for at in range(len(events))])
+        labels = [it.text for it in root.findall(f"{SVG}text")]
+        ranks = {f"rank {event.fields['rank']}" for event in events if "rank" in event.fields}
+        sets = {f"dataset {which}" for event in events for which in timeline.datasets_of(event)}
+        self.assertEqual({it for it in labels if it.startswith(("rank ", "dataset "))}, ranks | sets)
+        for event, mark in zip(events, marks):
+            rules = [it for it in mark.findall(f"{SVG}line") if it.get("stroke") == timeline.RED]
+            cut = event.kind == "lost" or (event.kind == "stop" and event.fields["cause"] != "ended")
+            refused = event.kind == "decided" and history.is_refused(event.fields["answer"])
+            self.assertEqual(len(rules), int(cut or refused), event.line)
+
+    def test_each_event_of_an_example_has_one_mark(self):
+        for name in named():
+            with self.subTest(name):
+                self.check(told(name))
+
+    def test_so_have_events_that_no_example_has(self):
+        self.check("".join(KINDS))
+
+    def test_a_wait_is_red_where_it_is_refused(self):
+        _, root = self.picture(told("mismatch"))
+        bars = [it.get("fill") for it in root.findall(f"{SVG}rect") if it.get("height") == "8"]
+        self.assertEqual((bars.count(timeline.RED), bars.count(timeline.GREEN)), (3, 3))
+
+    def test_no_picture_of_what_is_no_history(self):
+        status, out, err = tool("timeline.py", "refused line 0 reason 15\n")
+        self.assertEqual((status, out), (65, ""))
+        self.assertIn("line 1", err)
+        self.assertEqual(tool("timeline.py", "", "nofile")[0], 64)
+
+
+class Sentences(unittest.TestCase):
+    def test_each_line_has_its_sentence(self):
+        for text in [*map(told, named()), "".join(KINDS)]:
+            status, out, _ = tool("explain.py", text)
+            self.assertEqual((status, out.count("\n")), (0, text.count("\n")))
+            self.assertNotRegex(out, r"[{}]|None")
+
+    def test_each_reason_has_its_sentence_and_quotes_its_line(self):
+        with tempfile.NamedTemporaryFile("w", suffix=".scr") as script:
+            script.write("site 1 1 0\nset scheme single\nfly\n")
+            script.flush()
+            seen = set()
+            for reason in range(1, 15):
+                status, out, _ = tool("explain.py", f"refused line 3 reason {reason}\n", script.name)
+                self.assertEqual(status, 2)
+                self.assertIn("line 3: fly", out)
+                seen.add(out)
+        self.assertEqual(len(seen), 14)
+        self.assertIn(15, explain.REASONS)
+
+    def test_a_script_that_is_not_run_yet_is_told_line_by_line(self):
+        script = "# a comment\nsite 2 1 1\nset scheme partner\nset cache 1\nrun 1,0\nrank all start a both\nrank 0 complete valid\nrank 0-1 start b ckpt\nrank 1 restarted invalid\nstop 1 after 10\nlose 1\n"
+        self.assertEqual([at for at, _ in explain.unbuilt(script.split("\n"))], [3, 5, 6, 8, 9, 10, 11])
+
+    def test_what_is_neither_is_refused(self):
+        self.assertEqual(tool("explain.py", "refused line 1 reason 99\n")[0], 65)
+        self.assertEqual(tool("explain.py", "stop ended", )[0], 65)
+        self.assertEqual(tool("explain.py", "", "no/such/file")[0], 64)
+
+
+class Driver(unittest.TestCase):
+    def scr(self, *words, path=None):
+        env = dict(os.environ, PATH=path) if path else None
+        done = subprocess.run([str(TOP / "scr"), *words], capture_output=True, text=True, env=env, stdin=subprocess.DEVNULL)
+        return done.returncode, done.stdout, done.stderr
+
+    def test_a_wrong_call_prints_the_usage(self):
+        for words in [[], ["fly"], ["try"], ["try", "a", "b"], ["replay"], ["doctor", "now"]]:
+            status, out, err = self.scr(*words)
+            self.assertEqual((status, out), (64, ""), words)
+            self.assertTrue(err.startswith("usage: "), words)
+        self.assertEqual(self.scr("help")[0], 0)
+
+    def test_a_file_that_cannot_be_read_is_told(self):
+        for word in ["try", "replay", "explain", "picture"]:
+            for name in ["no/such/file", str(TOP)]:
+                status, out, err = self.scr(word, name)
+                self.assertEqual((status, out, err.count("\n")), (66, "", 1), (word, name))
+                self.assertTrue(err.startswith("scr: ") and name in err)
+
+    def test_a_missing_kit_is_told(self):
+        with tempfile.TemporaryDirectory() as bin:
+            for name in ["bash", "dirname", "realpath", "mktemp", "rm", "env"]:
+                os.symlink(subprocess.check_output(["which", name], text=True).strip(), f"{bin}/{name}")
+            status, _, err = self.scr("try", str(TOP / "examples/first.scr"), path=bin)
+            self.assertEqual((status, "python3 is missing" in err), (72, True), err)
+            os.symlink(sys.executable, f"{bin}/python3")
+            status, _, err = self.scr("try", str(TOP / "examples/first.scr"), path=bin)
+            self.assertEqual((status, "kit is missing" in err), (69, True), err)
+
+
+if __name__ == "__main__":
+    unittest.main()
