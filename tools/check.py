@@ -6,7 +6,8 @@ usage: check.py [--no-program] [--write]
 - The tools' own tests (test_tools.py), and the statuses of ./scr.
 - Each examples/NAME.scr gives examples/NAME.history by the built program, and each form that isn't run yet its refusal.
 - docs/pictures/NAME.svg is the picture of that history.
-- What the documents quote stands in these files, each link leads somewhere, each crate is in README.md and has its own.
+- What the documents quote stands in these files, each link leads somewhere, each crate is in README.md and has its own,
+  and each name of code that README.md, a crate's README or a page on the code marks as such stands in the crates.
 
 --no-program leaves out what needs the built program; --write writes histories and pictures anew. The status is 1 where
 something differs. Python 3.8 or later, its standard library alone.
@@ -143,6 +144,20 @@ def check_documents():
     return len(crates)
 
 
+def check_names():
+    """Each word marked as code that looks like a name of code stands in the sources, and each source that is named is there."""
+    sources = [path for path in (TOP / "crates").glob("*/*/**/*") if path.suffix in (".rt", ".antt") and path.parts[len(TOP.parts) + 2] != "out"]
+    words = set(re.findall(r"[A-Za-z_]\w*", "\n".join(path.read_text() for path in sources)))
+    words |= {part for path in sources for part in (path.stem, path.name, *path.relative_to(TOP).parts)}
+    about_code = [path for path in documents() if path.parent.name != "docs" or path.stem in ("PROMISES", "ARCHITECTURE", "DEFINITIONS", "GLOSSARY")]
+    for path in about_code:
+        for name in re.findall(r"`([^`\n]+)`", re.sub(r"```.*?```", "", path.read_text(), flags=re.S)):
+            if re.fullmatch(r"\w+((::|\.|/)\w+)*", name) and not re.match(r"\d|set$|d\.", name):
+                lost = [it for it in re.split(r"::|\.|/", name) if it not in words and it not in ("rt", "antt", "txt", "docs")]
+                if lost:
+                    fault(f"{path.relative_to(TOP)} speaks of `{name}`, and crates/ has no {lost[0]}")
+
+
 def main(words):
     if set(words) - {"--no-program", "--write"}:
         print(__doc__.strip(), file=sys.stderr)
@@ -151,6 +166,7 @@ def main(words):
         check_program("--write" in words)
     check_pictures("--write" in words)
     quotes, crates = check_quotes(), check_documents()
+    check_names()
     tests = unittest.defaultTestLoader.loadTestsFromName("test_tools")
     if not unittest.TextTestRunner(stream=sys.stdout, verbosity=0).run(tests).wasSuccessful():
         faults.append("tests")
