@@ -10,7 +10,7 @@ sum_of_sources() {
     cd "$here" || exit 1
     rt version 2>/dev/null
     cat crates.txt
-    find crates -type f \( -path 'crates/*/src/*' -o -path 'crates/*/specs/*' -o -path 'crates/*/proofs/*' \) | LC_ALL=C sort | xargs -d '\n' sha256sum
+    find crates -path 'crates/*/out' -prune -o -type f \( -name '*.rt' -o -name '*.antt' \) -print | LC_ALL=C sort | xargs -d '\n' sha256sum
   ) | sha256sum
 }
 

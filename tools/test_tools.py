@@ -1,5 +1,6 @@
 """Tests of ./scr and of the tools beside it. tools/check.py runs them; by themselves: python3 -m unittest, in tools/."""
 import os
+import shutil
 import subprocess
 import sys
 import tempfile
@@ -149,23 +150,108 @@ class Sentences(unittest.TestCase):
         self.assertEqual(tool("explain.py", "", "no/such/file")[0], 64)
 
 
+# A stand-in for the kit. Its programs print PRINTS and end with ENDS; where FAILS stands it comes to no program.
+KIT = """#!/bin/sh
+echo "$1" >>"$TOP/calls"
+case $1 in
+  version) echo a kit; exit ;;
+  try) cat >/dev/null; [ -e "$TOP/FAILS" ] && { echo no proof >&2; exit 2; }
+       cat "$TOP/PRINTS"; echo "run=ended status=$(cat "$TOP/ENDS")" >&2; exit "$(cat "$TOP/ENDS")" ;;
+  run) [ -e "$TOP/FAILS" ] && { echo an open goal >&2; exit 1; }
+       mkdir -p out; printf '#!/bin/sh\\ncat >/dev/null; cat "$TOP/PRINTS"; exit "$(cat "$TOP/ENDS")"\\n' >out/scr_replay
+       chmod +x out/scr_replay; echo "== scr_replay" >&2; echo "rt: running out/scr_replay; to give it" >&2; exit 2 ;;
+esac
+"""
+
+
+def scr(*words, top=TOP, **env):
+    done = subprocess.run([str(top / "scr"), *words], capture_output=True, text=True, env={**os.environ, **env}, stdin=subprocess.DEVNULL)
+    return done.returncode, done.stdout, done.stderr
+
+
 class Driver(unittest.TestCase):
-    def scr(self, *words, path=None):
-        env = dict(os.environ, PATH=path) if path else None
-        done = subprocess.run([str(TOP / "scr"), *words], capture_output=True, text=True, env=env, stdin=subprocess.DEVNULL)
-        return done.returncode, done.stdout, done.stderr
+    """./scr over a stand-in for the kit."""
+
+    def setUp(self):
+        room = tempfile.TemporaryDirectory()
+        self.addCleanup(room.cleanup)
+        self.top = Path(room.name)
+        for folder in ["tools", "bin", "crates/scr_replay/src"]:
+            (self.top / folder).mkdir(parents=True)
+        for name in ["scr", "tools/kept.sh", "tools/history.py", "tools/explain.py", "tools/timeline.py"]:
+            shutil.copy(TOP / name, self.top / name)
+        (self.top / "crates.txt").write_text("scr_replay:\n")
+        (self.top / "crates/scr_replay/src/main.rt").write_text("\n")
+        (self.top / "bin/rt").write_text(KIT)
+        (self.top / "bin/rt").chmod(0o755)
+        self.prints(told("first"), 0)
+
+    def prints(self, text, status):
+        (self.top / "PRINTS").write_text(text)
+        (self.top / "ENDS").write_text(str(status))
+
+    def scr(self, word):
+        (self.top / "calls").write_text("")
+        done = scr(word, str(TOP / "examples/first.scr"), top=self.top, TOP=str(self.top), PATH=f"{self.top}/bin:{os.environ['PATH']}")
+        calls = [it for it in (self.top / "calls").read_text().split() if it != "version"]
+        return (*done, calls)
+
+    def test_try_gives_the_programs_status_and_says_that_nothing_is_proved(self):
+        for text, status in [(told("first"), 0), ("refused line 0 reason 15\n", 2), ("run 1 at 0\n", 5)]:
+            self.prints(text, status)
+            self.assertEqual(self.scr("try")[:2], (status, text))
+        self.assertIn("nothing is proved", self.scr("try")[2])
+        (self.top / "FAILS").touch()
+        self.assertEqual(self.scr("try")[0], 70)
+
+    def test_replay_proves_once_and_again_after_an_edit(self):
+        (self.top / "FAILS").touch()
+        status, out, err, _ = self.scr("replay")
+        self.assertEqual((status, out), (70, ""))
+        self.assertIn("an open goal", err)
+        (self.top / "FAILS").unlink()
+        status, out, err, calls = self.scr("replay")
+        self.assertEqual((status, out, calls), (0, told("first"), ["run"]))
+        self.assertIn("proved first", err)
+        self.assertEqual(self.scr("replay"), (0, told("first"), "", []))
+        (self.top / "crates/scr_replay/src/main.rt").write_text("an edit\n")
+        self.assertEqual(self.scr("replay")[3], ["run"])
+
+    def test_explain_and_picture_take_the_kept_program(self):
+        self.assertEqual(self.scr("explain")[3], ["try"])
+        self.scr("replay")
+        status, out, _, calls = self.scr("explain")
+        self.assertEqual((status, out.count("\n"), calls), (0, 29, []))
+        status, out, _, calls = self.scr("picture")
+        self.assertEqual((status, out[:5], calls), (0, "<svg ", []))
+
+    def test_a_refusal_is_explained_and_has_no_picture(self):
+        self.prints("refused line 3 reason 6\n", 2)
+        status, out, _, _ = self.scr("explain")
+        self.assertEqual((status, "line 3: run 0" in out), (2, True))
+        status, out, err, _ = self.scr("picture")
+        self.assertEqual((status, out, "line 3: run 0" in err), (2, "", True))
+
+    def test_what_is_no_history_is_told(self):
+        self.prints("run 1 at 0", 5)
+        self.assertEqual(self.scr("picture")[:2], (65, ""))
+        self.assertEqual(self.scr("explain")[:2], (65, ""))
+
+
+class Calls(unittest.TestCase):
+    """./scr where it doesn't come to a run."""
 
     def test_a_wrong_call_prints_the_usage(self):
         for words in [[], ["fly"], ["try"], ["try", "a", "b"], ["replay"], ["doctor", "now"]]:
-            status, out, err = self.scr(*words)
+            status, out, err = scr(*words)
             self.assertEqual((status, out), (64, ""), words)
             self.assertTrue(err.startswith("usage: "), words)
-        self.assertEqual(self.scr("help")[0], 0)
+        self.assertEqual(scr("help")[0], 0)
 
     def test_a_file_that_cannot_be_read_is_told(self):
         for word in ["try", "replay", "explain", "picture"]:
             for name in ["no/such/file", str(TOP)]:
-                status, out, err = self.scr(word, name)
+                status, out, err = scr(word, name)
                 self.assertEqual((status, out, err.count("\n")), (66, "", 1), (word, name))
                 self.assertTrue(err.startswith("scr: ") and name in err)
 
@@ -173,10 +259,10 @@ class Driver(unittest.TestCase):
         with tempfile.TemporaryDirectory() as bin:
             for name in ["bash", "dirname", "realpath", "mktemp", "rm", "env"]:
                 os.symlink(subprocess.check_output(["which", name], text=True).strip(), f"{bin}/{name}")
-            status, _, err = self.scr("try", str(TOP / "examples/first.scr"), path=bin)
+            status, _, err = scr("try", str(TOP / "examples/first.scr"), PATH=bin)
             self.assertEqual((status, "python3 is missing" in err), (72, True), err)
             os.symlink(sys.executable, f"{bin}/python3")
-            status, _, err = self.scr("try", str(TOP / "examples/first.scr"), path=bin)
+            status, _, err = scr("try", str(TOP / "examples/first.scr"), PATH=bin)
             self.assertEqual((status, "kit is missing" in err), (69, True), err)
 
 
