@@ -12,6 +12,7 @@ usage: check.py [--no-program] [--write]
 --no-program leaves out what needs the built program; --write writes histories and pictures anew. The status is 1 where
 something differs. Python 3.8 or later, its standard library alone.
 """
+import io
 import os
 import re
 import subprocess
@@ -168,8 +169,9 @@ def main(words):
     quotes, crates = check_quotes(), check_documents()
     check_names()
     tests = unittest.defaultTestLoader.loadTestsFromName("test_tools")
-    if not unittest.TextTestRunner(stream=sys.stdout, verbosity=0).run(tests).wasSuccessful():
-        faults.append("tests")
+    said = io.StringIO()
+    if not unittest.TextTestRunner(stream=said, verbosity=0).run(tests).wasSuccessful():
+        fault(f"the tools' own tests:\n{said.getvalue()}")
     by = "as stored" if "--no-program" in words else "as stored and as the built program gives them"
     if not faults:
         print(f"house: {len(examples())} histories and their pictures {by}, {quotes} quotes, {crates} crates with their READMEs, {tests.countTestCases()} tests of the tools")

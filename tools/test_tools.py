@@ -155,6 +155,9 @@ KIT = """#!/bin/sh
 echo "$1" >>"$TOP/calls"
 case $1 in
   version) echo a kit; exit ;;
+  ci) mkdir -p crates/scr_replay/out; echo >crates/scr_replay/out/scr_replay; chmod +x crates/scr_replay/out/scr_replay
+      [ -e "$TOP/FAILS" ] && { echo 1 passed, 1 failed; exit 3; }
+      echo 2 passed, 0 failed; exit ;;
   try) cat >/dev/null; [ -e "$TOP/FAILS" ] && { echo no proof >&2; exit 2; }
        cat "$TOP/PRINTS"; echo "run=ended status=$(cat "$TOP/ENDS")" >&2; exit "$(cat "$TOP/ENDS")" ;;
   run) [ -e "$TOP/FAILS" ] && { echo an open goal >&2; exit 1; }
@@ -176,9 +179,9 @@ class Driver(unittest.TestCase):
         room = tempfile.TemporaryDirectory()
         self.addCleanup(room.cleanup)
         self.top = Path(room.name)
-        for folder in ["tools", "bin", "crates/scr_replay/src"]:
+        for folder in [".ci", "tools", "bin", "crates/scr_replay/src"]:
             (self.top / folder).mkdir(parents=True)
-        for name in ["scr", "tools/kept.sh", "tools/history.py", "tools/explain.py", "tools/timeline.py"]:
+        for name in ["scr", ".ci/run", "tools/kept.sh", "tools/history.py", "tools/explain.py", "tools/timeline.py"]:
             shutil.copy(TOP / name, self.top / name)
         (self.top / "crates.txt").write_text("scr_replay:\n")
         (self.top / "crates/scr_replay/src/main.rt").write_text("\n")
@@ -190,9 +193,12 @@ class Driver(unittest.TestCase):
         (self.top / "PRINTS").write_text(text)
         (self.top / "ENDS").write_text(str(status))
 
+    def environment(self):
+        return {**os.environ, "TOP": str(self.top), "PATH": f"{self.top}/bin:{os.environ['PATH']}"}
+
     def scr(self, word):
         (self.top / "calls").write_text("")
-        done = scr(word, str(TOP / "examples/first.scr"), top=self.top, TOP=str(self.top), PATH=f"{self.top}/bin:{os.environ['PATH']}")
+        done = scr(word, str(TOP / "examples/first.scr"), top=self.top, **self.environment())
         calls = [it for it in (self.top / "calls").read_text().split() if it != "version"]
         return (*done, calls)
 
@@ -236,6 +242,19 @@ class Driver(unittest.TestCase):
         self.prints("run 1 at 0", 5)
         self.assertEqual(self.scr("picture")[:2], (65, ""))
         self.assertEqual(self.scr("explain")[:2], (65, ""))
+
+
+    def gate(self, check):
+        (self.top / "tools/check.py").write_text(f"print('house: checked')\nraise SystemExit({check})\n")
+        done = subprocess.run([str(self.top / ".ci/run")], capture_output=True, text=True, env=self.environment())
+        return done.returncode, done.stdout
+
+    def test_the_gate_ends_with_the_status_of_rt_ci_and_else_with_that_of_the_own_checks(self):
+        self.assertEqual(self.gate(0), (0, "2 passed, 0 failed\nhouse: checked\n"))
+        self.assertEqual(self.gate(1), (1, "2 passed, 0 failed\nhouse: checked\n"))
+        self.assertEqual(self.scr("replay")[3], [])
+        (self.top / "FAILS").touch()
+        self.assertEqual(self.gate(0), (3, "1 passed, 1 failed\n"))
 
 
 class Calls(unittest.TestCase):
