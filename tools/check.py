@@ -128,11 +128,19 @@ def check_quotes():
     return count
 
 
+def marks_of(path):
+    """The headings of a document, as links name them."""
+    return {re.sub(r"[^a-z0-9 -]", "", head.lower()).replace(" ", "-") for head in re.findall(r"^#+ (.*)$", path.read_text(), re.M)}
+
+
 def check_documents():
     for path in documents():
-        for link in re.findall(r"\]\(([^)#\s]+)", path.read_text()):
-            if "://" not in link and not (path.parent / link).exists():
+        for link, mark in re.findall(r"\]\(([^)#\s]*)#?([^)\s]*)\)", path.read_text()):
+            to = path.parent / link if link else path
+            if "://" not in link and not to.exists():
                 fault(f"{path.relative_to(TOP)} links to {link}, which isn't there")
+            elif mark and mark not in marks_of(to):
+                fault(f"{path.relative_to(TOP)} links to #{mark}, which {link or 'it'} doesn't have")
     readme = (TOP / "README.md").read_text()
     if len(readme.encode()) > README_LIMIT:
         fault(f"README.md has {len(readme.encode())} bytes, of {README_LIMIT} at most")
