@@ -28,6 +28,8 @@ class Picture:
 
     def __init__(self, events):
         self.events, self.bars, self.marks = events, [], []
+        # Since when ranks wait, datasets are in cache (with a colour) and in the index, and the run goes on.
+        self.waits, self.stands, self.indexed, self.begun = {}, {}, {}, None
         ranks, sets = set(), []
         for event in events:
             if event.fields.get("rank"):
@@ -78,50 +80,65 @@ class Picture:
         self.mark(at, line, self.shape("text", words, x=x + 2, y=TOP - 18, font_size=9, fill=INK, transform=turned))
 
     def draw(self):
-        waits, stands, indexed, begun = {}, {}, {}, None
         for at, event in enumerate(self.events):
-            kind, fields = event.kind, event.fields
-            lane = lane_of(fields)
-            refused = history.is_refused(fields.get("answer") or "")
-            if kind == "run":
-                begun = at
-                self.rule(at, BLUE, event.line, 0)
-            elif kind == "stop":
-                if begun is not None:
-                    self.band(begun, at)
-                self.rule(at, GREY if fields["cause"] == "ended" else RED, event.line, 1)
-                waits, begun = {}, None
-            elif kind == "lost":
-                self.rule(at, RED, event.line, 2)
-            elif kind == "decided":
+            lane = lane_of(event.fields)
+            if event.kind in ("run", "stop", "lost"):
+                self.edge(at, event)
+            elif event.kind == "decided":
                 self.decided(at, event)
-            elif kind == "call":
-                waits[lane] = at
-                self.dot(at, lane, GREEN, 3)
-            elif kind == "reply":
-                self.bar(lane, waits.pop(lane, at), at, RED if refused else GREEN, 8)
-                self.dot(at, lane, RED if refused else GREEN, 3)
-            elif kind == "local":
-                self.dot(at, lane, RED if refused else BLUE)
-            elif kind in history.OF_DATASETS or kind == "givenup":
-                if kind in WHOLE | ON_ITS_WAY | GONE:
-                    self.close({lane: stands.pop(lane)} if lane in stands else {}, {}, at)
-                if kind in WHOLE | ON_ITS_WAY:
-                    stands[lane] = (at, GREEN if kind in WHOLE else AMBER)
-                if kind == "failed" and lane in indexed:
-                    self.close({}, {lane: indexed.pop(lane)}, at)
-                if kind == "flushed":
-                    indexed[lane] = at
-                self.dot(at, lane, RED if kind in ("failed", "discarded", "givenup") else AMBER if kind in ON_ITS_WAY else GREEN)
+            elif lane[0] == "rank":
+                self.of_rank(at, event, lane)
+            elif lane[0] == "dataset":
+                self.of_dataset(at, event.kind, lane)
             else:
-                if kind == "found":
-                    self.close(stands, indexed, at)
-                    stands = {("dataset", row.split(":")[0]): (at, AMBER) for row in fields["kept"].split()}
-                    indexed = {("dataset", row.split(":")[0]): at for row in fields["index"].split() if row.endswith(":flushed")}
-                elif kind == "scavenged" and fields["answer"] not in (None, "none"):
-                    indexed[("dataset", fields["answer"])] = at
-                self.dot(at, ("site", ""), RED if refused or fields.get("cause") else GREY)
-        self.close(stands, indexed, len(self.events))
+                self.of_site(at, event)
+        self.close(self.stands, self.indexed, len(self.events))
+
+    def edge(self, at, event):
+        """A run begins or is over, or a node is lost."""
+        if event.kind == "run":
+            self.begun = at
+            self.rule(at, BLUE, event.line, 0)
+        elif event.kind == "lost":
+            self.rule(at, RED, event.line, 2)
+        else:
+            if self.begun is not None:
+                self.band(self.begun, at)
+            self.rule(at, GREY if event.fields["cause"] == "ended" else RED, event.line, 1)
+            self.waits, self.begun = {}, None
+
+    def of_rank(self, at, event, lane):
+        """A rank calls, takes its answer, or does a step of its own."""
+        refused = history.is_refused(event.fields.get("answer") or "")
+        if event.kind == "call":
+            self.waits[lane] = at
+        elif event.kind == "reply":
+            self.bar(lane, self.waits.pop(lane, at), at, RED if refused else GREEN, 8)
+        own = event.kind == "local"
+        self.dot(at, lane, RED if refused else BLUE if own else GREEN, 4 if own else 3)
+
+    def of_dataset(self, at, kind, lane):
+        if kind in WHOLE | ON_ITS_WAY | GONE and lane in self.stands:
+            self.close({lane: self.stands.pop(lane)}, {}, at)
+        if kind in WHOLE | ON_ITS_WAY:
+            self.stands[lane] = (at, GREEN if kind in WHOLE else AMBER)
+        if kind == "failed" and lane in self.indexed:
+            self.close({}, {lane: self.indexed.pop(lane)}, at)
+        if kind == "flushed":
+            self.indexed[lane] = at
+        self.dot(at, lane, RED if kind in ("failed", "discarded", "givenup") else AMBER if kind in ON_ITS_WAY else GREEN)
+
+    def of_site(self, at, event):
+        """What was found, the clock, or what stands between two runs."""
+        fields = event.fields
+        if event.kind == "found":
+            self.close(self.stands, self.indexed, at)
+            self.stands = {("dataset", row.split(":")[0]): (at, AMBER) for row in fields["kept"].split()}
+            self.indexed = {("dataset", row.split(":")[0]): at for row in fields["index"].split() if row.endswith(":flushed")}
+        elif event.kind == "scavenged" and fields["answer"] not in (None, "none"):
+            self.indexed[("dataset", fields["answer"])] = at
+        refused = history.is_refused(fields.get("answer") or "") or fields.get("cause")
+        self.dot(at, ("site", ""), RED if refused else GREY)
 
     def close(self, stands, indexed, at):
         """Ends the bars of datasets in cache, and of those in the index."""
