@@ -1,0 +1,3 @@
+-- What steps leave of the datasets in cache.
+pub mod Held
+pub mod Looks
