@@ -1,0 +1,4 @@
+-- What recovery makes of what reads give.
+pub mod Rows
+pub mod Kept
+pub mod Event

@@ -1,0 +1,9 @@
+pub mod Lists
+pub mod Rise
+pub mod Safety
+pub mod Keeping
+pub mod Losing
+pub mod Finding
+pub mod Changes
+pub mod Turning
+pub mod Bodies

@@ -1,0 +1,3 @@
+-- Gates that are turned node by node.
+pub mod Gates
+pub mod Sealed

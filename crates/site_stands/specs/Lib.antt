@@ -1,0 +1,13 @@
+pub mod Cells
+pub mod Entry
+pub mod Described
+pub mod View
+pub mod Members
+pub mod Prefix
+pub mod Site
+pub mod Frame
+pub mod Moves
+pub mod Events
+pub mod Gate
+pub mod Mend
+pub mod Look
