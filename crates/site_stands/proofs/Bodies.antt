@@ -1,5 +1,5 @@
 -- A dataset has one record on each node, and one in the index.
-use Rattle.std.proofs.Common.{◌≡◌, ℕ, List, [], ◌∷◌, map, length, refl, sym, ◌∙◌, ap, subst, Option}
+use Rattle.std.proofs.Common.{◌≡◌, ℕ, List, [], ◌∷◌, map, refl, sym, ◌∙◌, ap}
 use Rattle.scr_base.specs.declared.shape.DataId.{DataId}
 use Rattle.scr_base.specs.declared.shape.Shape.{Shape}
 use Rattle.scr_base.specs.declared.shape.Scheme.{Scheme}
@@ -8,7 +8,7 @@ use Rattle.dataset_desc.specs.declared.desc.Desc.{Desc}
 use Rattle.filemap.specs.declared.rows.FileRow.{FileRow}
 use Rattle.filemap.specs.Maps.{map_tree}
 use Rattle.kvtree.specs.Entries.{Entries}
-use Rattle.member_store.specs.Members.{member_body, member_tree}
+use Rattle.member_store.specs.Members.{member_body}
 use Rattle.ckpt_model.specs.Dataset.{Dataset}
 use Rattle.site_stands.specs.Described.{Describes}
 

@@ -1,15 +1,14 @@
 -- Identities and lists of kept datasets.
-use Rattle.std.proofs.Common.{◌≡◌, ◌≢◌, ◌⊎◌, inl, inr, ◌<◌, ◌≤◌, ◌+◌, ℕ, zero, suc, Bool, true, false, List, [], ◌∷◌, Option, Some, None, refl, sym, ◌∙◌, ap, subst, arith}
-use Rattle.std.specs.Prelude.{IsTrue, ◌||◌, ◌==◌, ◌&&◌, slice_get, option_map}
+use Rattle.std.proofs.Common.{◌≡◌, ◌≢◌, ◌⊎◌, inl, inr, ◌<◌, ◌≤◌, ℕ, zero, suc, Bool, true, false, List, [], ◌∷◌, Some, refl, sym, ◌∙◌, ap, subst, arith}
+use Rattle.std.specs.Prelude.{IsTrue, ◌||◌, ◌==◌, ◌&&◌, slice_get}
 use Rattle.std.specs.List.{list_any, list_all}
 use Rattle.std.proofs.lemmas.Bool.{cases_eq}
 use Rattle.std.proofs.lemmas.Bool.Decides.{nat_tests}
 use Rattle.scr_base.specs.declared.shape.DataId.{DataId}
 use Rattle.scr_base.specs.declared.shape.Shape.{Shape}
-use Rattle.scr_base.specs.Same.{same_id}
 use Rattle.scr_base.specs.Sets.{is_among}
-use Rattle.ckpt_model.specs.Machine.{Machine, Kept}
-use Rattle.ckpt_model.specs.Questions.{is_kept, is_id_of}
+use Rattle.ckpt_model.specs.Machine.{Kept}
+use Rattle.ckpt_model.specs.Questions.{is_id_of}
 use Rattle.ckpt_model.proofs.Plays.{same_id_is}
 use Rattle.ckpt_model.proofs.SameLemmas.{id-same}
 use Rattle.site_stands.specs.Cells.{physical_nodes}

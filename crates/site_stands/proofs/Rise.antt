@@ -1,6 +1,6 @@
 -- Kept datasets of a proper state rise, so none has the identity of another.
-use Rattle.std.proofs.Common.{◌≡◌, ◌<◌, ◌≤◌, ◌+◌, ℕ, zero, suc, Bool, true, false, List, [], ◌∷◌, map, Option, Some, None, refl, sym, ◌∙◌, ap, subst, arith}
-use Rattle.std.specs.Prelude.{IsTrue, ◌&&◌, nat_lt, slice_get}
+use Rattle.std.proofs.Common.{◌≡◌, ◌<◌, ℕ, zero, suc, List, [], ◌∷◌, map, Some, refl, ap, subst, arith}
+use Rattle.std.specs.Prelude.{IsTrue, nat_lt, slice_get}
 use Rattle.std.proofs.lemmas.Bool.Decides.{nat_tests}
 use Rattle.scr_base.specs.declared.shape.DataId.{DataId}
 use Rattle.ckpt_model.specs.Dataset.{Dataset}

@@ -1,7 +1,7 @@
 -- What reads give, or what a stop leaves, by place and name: the nodes of a site from 0 on, and the prefix.
 use Rattle.std.specs.Prelude.{◌+◌, ◌<◌, ◌≤◌, ℕ, List, Option}
 use Rattle.scr_base.specs.declared.shape.Shape.{Shape}
-use Rattle.node_device.specs.File.{File, MayLeave, IsAtRest}
+use Rattle.node_device.specs.File.{MayLeave, IsAtRest}
 use Rattle.node_device.specs.DeviceState.{DeviceState}
 
 -- the bytes under each name at each place, or none

@@ -1,10 +1,10 @@
 -- What records say of a dataset, and what stands beside a record: its files and shares.
-use Rattle.std.specs.Prelude.{◌≡◌, ◌<◌, ◌+◌, ◌*◌, ◌/◌, ◌%◌, ℕ, Bool, true, false, IsTrue, List, map, length, flat_map, Option, Some, slice_get}
+use Rattle.std.specs.Prelude.{◌≡◌, ◌<◌, ◌+◌, ◌*◌, ◌/◌, ◌%◌, ℕ, Bool, true, false, IsTrue, List, map, length, flat_map, Some, slice_get}
 use Rattle.scr_base.specs.Sets.{group_count, ranks_of_set}
 use Rattle.scr_base.specs.Words.{is_name}
 use Rattle.scr_base.specs.declared.shape.Shape.{Shape}
 use Rattle.scr_base.specs.declared.shape.Scheme.{Scheme}
-use Rattle.scr_base.specs.declared.shape.Scheme.TheVariants.{Single, Partner, Xor, Rs}
+use Rattle.scr_base.specs.declared.shape.Scheme.TheVariants.{Single}
 use Rattle.dataset_desc.specs.declared.desc.Desc.{Desc}
 use Rattle.filemap.specs.Maps.{IsMap}
 use Rattle.filemap.specs.declared.rows.FileRow.{FileRow}

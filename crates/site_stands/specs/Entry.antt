@@ -1,5 +1,5 @@
 -- The records of the index, the files under their folders, and the mark.
-use Rattle.std.specs.Prelude.{◌≡◌, ◌*◌, ◌^◌, ◌==◌, ◌&&◌, ℕ, List, ◌∷◌, ◌++◌, Option, None, Some, Result, Ok, Err, IsTrue, codes, decimal, bytes_eq, if◌then◌else◌, option_and_then, option_map}
+use Rattle.std.specs.Prelude.{◌≡◌, ◌*◌, ℕ, List, ◌∷◌, ◌++◌, Option, None, Some, Result, Ok, Err, IsTrue, codes, decimal, bytes_eq, if◌then◌else◌, option_and_then}
 use Rattle.scr_base.specs.Words.{is_name}
 use Rattle.scr_base.specs.declared.shape.DataId.{DataId}
 use Rattle.gated_record.specs.Record.{HasBody}

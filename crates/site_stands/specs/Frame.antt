@@ -1,11 +1,11 @@
 -- What may be left of files: no more than before, of all files or of those of one dataset, one entry or one pair.
-use Rattle.std.specs.Prelude.{◌≡◌, ◌≢◌, ◌⊎◌, ◌<◌, ◌≤◌, ℕ, Some, List, slice_get}
+use Rattle.std.specs.Prelude.{◌≡◌, ◌<◌, ◌≤◌, ℕ, Some, List, slice_get}
 use Rattle.scr_base.specs.declared.shape.DataId.{DataId}
 use Rattle.scr_base.specs.declared.shape.Shape.{Shape}
 use Rattle.node_device.specs.File.{File, MayLeave}
 use Rattle.node_device.specs.DeviceState.{DeviceState}
 use Rattle.gate_outcomes.specs.Leaves.{Leaves}
-use Rattle.member_store.specs.Names.{record_name, part_name, IsPlace, IsPart, IsNameOf}
+use Rattle.member_store.specs.Names.{IsPlace, IsNameOf}
 use Rattle.gated_record.specs.PairStages.{IsCopyName}
 use Rattle.ckpt_model.specs.Dataset.{Dataset, files_of, File as RankFile}
 use Rattle.site_stands.specs.Cells.{physical_nodes, prefix_place}

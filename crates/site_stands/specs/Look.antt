@@ -1,5 +1,5 @@
 -- What recovery reads of all nodes, and the list that it makes of it.
-use Rattle.std.specs.Prelude.{◌≡◌, ◌<◌, ℕ, Bool, true, false, List, [], ◌∷◌, length, nat_lt, Option, Some, slice_get, IsTrue}
+use Rattle.std.specs.Prelude.{◌≡◌, ◌<◌, ℕ, true, false, List, [], ◌∷◌, length, nat_lt, Some, slice_get, IsTrue}
 use Rattle.scr_base.specs.declared.shape.DataId.{DataId}
 use Rattle.scr_base.specs.declared.shape.Shape.{Shape}
 use Rattle.scr_base.specs.Sets.{is_among}
@@ -8,8 +8,7 @@ use Rattle.node_device.specs.DeviceState.{DeviceState}
 use Rattle.gate_outcomes.specs.Leaves.{Leaves}
 use Rattle.member_store.specs.Names.{record_name}
 use Rattle.ckpt_model.specs.declared.event.FoundRow.{FoundRow}
-use Rattle.ckpt_model.specs.Machine.{Kept}
-use Rattle.ckpt_model.specs.Loss.{are_nodes, kept_found}
+use Rattle.ckpt_model.specs.Loss.{are_nodes}
 use Rattle.site_stands.specs.Cells.{Cells, physical_nodes}
 use Rattle.site_stands.specs.View.{Opens, Seals}
 

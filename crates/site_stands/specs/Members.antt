@@ -1,5 +1,5 @@
 -- What the devices hold for the datasets in cache, dataset by dataset and member by member: all of it is said of what a stop may leave.
-use Rattle.std.specs.Prelude.{◌≡◌, ◌<◌, ℕ, Bool, true, false, IsTrue, List, Option, Some, slice_get}
+use Rattle.std.specs.Prelude.{◌≡◌, ◌<◌, ℕ, Bool, false, IsTrue, List, Some, slice_get}
 use Rattle.scr_base.specs.Sets.{is_among}
 use Rattle.scr_base.specs.declared.shape.DataId.{DataId}
 use Rattle.scr_base.specs.declared.shape.Shape.{Shape}

@@ -1,5 +1,5 @@
 -- A dataset that is being mended, node by node: the nodes are independent of one another, and a stop forgets how far they have come.
-use Rattle.std.specs.Prelude.{◌≡◌, ◌≢◌, ◌<◌, ℕ, Bool, true, false, IsTrue, List, Option, Some, slice_get}
+use Rattle.std.specs.Prelude.{◌≡◌, ◌≢◌, ◌<◌, ℕ, false, IsTrue, List, Some, slice_get}
 use Rattle.scr_base.specs.declared.shape.Shape.{Shape}
 use Rattle.scr_base.specs.Sets.{is_among}
 use Rattle.node_device.specs.File.{File}

@@ -1,10 +1,10 @@
 -- What the prefix holds: the index, entry by entry, and each pair by itself.
-use Rattle.std.specs.Prelude.{◌≡◌, ◌+◌, ℕ, Bool, true, false, not, IsTrue, List, map, Option, Some, slice_get, codes, if◌then◌else◌}
+use Rattle.std.specs.Prelude.{◌≡◌, ◌+◌, ℕ, Bool, false, IsTrue, List, Some, slice_get, codes, if◌then◌else◌}
 use Rattle.scr_base.specs.declared.shape.DataId.{DataId}
 use Rattle.scr_base.specs.declared.shape.Shape.{Shape}
 use Rattle.node_device.specs.File.{File}
 use Rattle.node_device.specs.DeviceState.{DeviceState}
-use Rattle.gated_record.specs.Record.{IsOpen, is_open, KeepsBody}
+use Rattle.gated_record.specs.Record.{IsOpen, KeepsBody}
 use Rattle.gated_record.specs.PairStages.{PairLeaves}
 use Rattle.gate_outcomes.specs.Leaves.{Leaves}
 use Rattle.gate_outcomes.specs.Gates.{StaysOpen}

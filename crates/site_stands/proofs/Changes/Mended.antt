@@ -1,23 +1,17 @@
 -- A dataset that is being mended stands at any time, and stands as mended once each node is done.
-use Rattle.std.proofs.Common.{◌≡◌, ◌≢◌, ◌⊎◌, inl, inr, ◌<◌, ◌≤◌, ◌+◌, ℕ, zero, suc, Bool, true, false, List, [], ◌∷◌, length, Option, Some, None, refl, sym, ◌∙◌, ap, subst, arith}
-use Rattle.std.specs.Prelude.{IsTrue, slice_get, if◌then◌else◌}
+use Rattle.std.proofs.Common.{◌≡◌, inl, inr, ◌<◌, ℕ, zero, suc, false, List, [], ◌∷◌, length, Some, refl, sym, subst, arith}
+use Rattle.std.specs.Prelude.{slice_get}
 use Rattle.std.proofs.lemmas.Bool.{cases_eq}
-use Rattle.std.proofs.lemmas.Bool.Decides.{nat_tests}
 use Rattle.std.proofs.lemmas.Option.{slice_get_within}
 use Rattle.scr_base.specs.declared.shape.Shape.{Shape}
-use Rattle.scr_base.specs.Sets.{is_among}
 use Rattle.scr_base.specs.declared.shape.DataId.{DataId}
-use Rattle.node_device.specs.File.{MayLeave}
 use Rattle.node_device.specs.DeviceState.{DeviceState}
-use Rattle.member_store.specs.Names.{record_name}
 use Rattle.ckpt_model.specs.Machine.{Machine, Setup, Kept, MemberState}
-use Rattle.ckpt_model.specs.Steps.{members_at, kept_mended, change_kept}
+use Rattle.ckpt_model.specs.Steps.{kept_mended, change_kept}
 use Rattle.ckpt_model.proofs.ShowsLemmas.{mapped_at}
-use Rattle.site_stands.specs.Cells.{physical_nodes}
 use Rattle.site_stands.specs.Members.{IsHidden, NodeStands, KeptStands}
 use Rattle.site_stands.specs.Site.{NodesStand}
-use Rattle.site_stands.specs.Gate.{Gate, GateIs, MemberIs}
-use Rattle.site_stands.specs.Mend.{Mend, MendIs, MendHolds, MendsKept, IsHiddenOff}
+use Rattle.site_stands.specs.Mend.{Mend, MendIs, MendsKept}
 use Rattle.site_stands.proofs.Lists.{alone}
 use Rattle.site_stands.proofs.Changes.Nodes.{change_event}
 

@@ -1,28 +1,27 @@
 -- An event changes the state, and the devices stay: what is left to show is the one dataset that it changes.
-use Rattle.std.proofs.Common.{◌≡◌, ◌≢◌, ◌⊎◌, inl, inr, ◌<◌, ◌≤◌, ◌+◌, ℕ, zero, suc, Bool, true, false, List, [], ◌∷◌, map, length, Option, Some, None, refl, sym, ◌∙◌, ap, subst, arith}
-use Rattle.std.specs.Prelude.{IsTrue, slice_get, ◌||◌, not, filter, nat_lt, if◌then◌else◌}
+use Rattle.std.proofs.Common.{◌≡◌, ◌≢◌, ◌⊎◌, inl, inr, ◌<◌, ℕ, zero, suc, Bool, true, false, List, [], ◌∷◌, map, Some, refl, sym, ◌∙◌, ap, subst, arith}
+use Rattle.std.specs.Prelude.{slice_get, ◌||◌, not, filter, nat_lt, if◌then◌else◌}
 use Rattle.std.specs.List.{list_any}
 use Rattle.scr_base.specs.declared.shape.DataId.{DataId}
 use Rattle.scr_base.specs.declared.shape.Shape.{Shape}
 use Rattle.scr_base.specs.Same.{same_id}
 use Rattle.scr_base.specs.Sets.{is_among}
-use Rattle.node_device.specs.File.{File, MayLeave, IsPartlySynced}
+use Rattle.node_device.specs.File.{MayLeave, IsPartlySynced}
 use Rattle.node_device.specs.DeviceState.{DeviceState, ChangesOnly}
 use Rattle.member_store.specs.Names.{record_name, part_name, IsPlace, IsNameOf}
 use Rattle.member_store.specs.declared.part.Part.TheVariants.{File as FilePart}
 use Rattle.ckpt_model.specs.Dataset.{Dataset, File as RankFile}
 use Rattle.ckpt_model.specs.Machine.{Machine, Setup, Kept, MemberState, Mark}
-use Rattle.ckpt_model.specs.Loss.{has_no_home, member_shaken, kept_shaken}
+use Rattle.ckpt_model.specs.Loss.{member_shaken, kept_shaken}
 use Rattle.ckpt_model.specs.Questions.{is_kept, is_id_of}
-use Rattle.ckpt_model.specs.Steps.{change_kept, drop_kept, add_kept, add_sealing, kept_sealing, members_at}
+use Rattle.ckpt_model.specs.Steps.{change_kept, drop_kept, add_kept, add_sealing, kept_sealing}
 use Rattle.ckpt_model.proofs.ShowsLemmas.{mapped_at}
 use Rattle.ckpt_model.proofs.Plays.{same_id_is}
-use Rattle.ckpt_model.proofs.SameLemmas.{id-same}
-use Rattle.site_stands.specs.Cells.{cells_of, physical_nodes, prefix_place}
+use Rattle.site_stands.specs.Cells.{physical_nodes}
 use Rattle.site_stands.specs.Described.{IsFileAt}
-use Rattle.site_stands.specs.Members.{MemberStands, HomeHolds, NodeStands, KeptStands, NoneSealed}
+use Rattle.site_stands.specs.Members.{MemberStands, NodeStands, KeptStands, NoneSealed}
 use Rattle.site_stands.specs.Site.{NodesStand, SiteStands}
-use Rattle.site_stands.specs.Frame.{LeavesNoMore, KeepsAll, KeepsDataset, KeepsPrefix}
+use Rattle.site_stands.specs.Frame.{LeavesNoMore, KeepsAll}
 use Rattle.site_stands.specs.Moves.{MovesDataset, HoldsOne}
 use Rattle.site_stands.proofs.Lists.{kept_at, any_there, same_or_other, not_both}
 use Rattle.site_stands.proofs.Keeping.Kept.{same_file, dataset_step}

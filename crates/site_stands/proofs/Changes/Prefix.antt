@@ -1,23 +1,17 @@
 -- An event changes the state, and the prefix stays.
-use Rattle.std.proofs.Common.{◌≡◌, ◌≢◌, ◌⊎◌, inl, inr, ◌<◌, ◌≤◌, ◌+◌, ℕ, Bool, true, false, List, Option, Some, None, refl, sym, ◌∙◌, ap, subst, arith}
+use Rattle.std.proofs.Common.{◌≡◌, ◌⊎◌, inl, inr, ◌<◌, ◌+◌, ℕ, List, Option, Some, sym, ◌∙◌, ap, subst}
 use Rattle.std.specs.Prelude.{IsTrue, slice_get, codes}
 use Rattle.scr_base.specs.Halt.{Halt}
 use Rattle.scr_base.specs.declared.shape.DataId.{DataId}
 use Rattle.node_device.specs.DeviceState.{DeviceState}
-use Rattle.gated_record.specs.PairStages.{PairLeaves}
-use Rattle.gate_outcomes.specs.Leaves.{Leaves}
-use Rattle.halt_file.specs.Stores.{halt_in}
 use Rattle.ckpt_model.specs.Machine.{Machine, Setup, Kept, Entry, Pending}
 use Rattle.ckpt_model.specs.Proper.{IsProper}
-use Rattle.ckpt_model.specs.Questions.{is_kept, is_id_of}
-use Rattle.ckpt_model.specs.Stops.{may_store, pending_of, halt_left, mark_left}
-use Rattle.ckpt_model.specs.Steps.{after_begin}
+use Rattle.ckpt_model.specs.Questions.{is_id_of}
+use Rattle.ckpt_model.specs.Stops.{pending_of, halt_left, mark_left}
 use Rattle.site_stands.specs.Cells.{prefix_place}
-use Rattle.site_stands.specs.Entry.{mark_in}
-use Rattle.site_stands.specs.View.{run_in}
 use Rattle.site_stands.specs.Events.{HasSamePairs}
-use Rattle.site_stands.specs.Prefix.{EntryHolds, OfEntry, IsIndexed, IsRunOf, PairsStand}
-use Rattle.site_stands.specs.Site.{NodesStand, PrefixStands, SiteStands}
+use Rattle.site_stands.specs.Prefix.{EntryHolds, OfEntry, IsIndexed, PairsStand}
+use Rattle.site_stands.specs.Site.{PrefixStands, SiteStands}
 use Rattle.site_stands.proofs.Changes.Nodes.{nodes_event}
 
 -- each pair still tells its value

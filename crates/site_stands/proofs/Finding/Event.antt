@@ -1,5 +1,5 @@
 -- The event found.
-use Rattle.std.proofs.Common.{◌≡◌, ◌≢◌, ◌<◌, ◌≤◌, ◌+◌, ◌⊎◌, inl, inr, ℕ, zero, suc, Bool, true, false, List, [], ◌∷◌, map, length, Option, Some, None, refl, sym, ◌∙◌, ap, subst, arith}
+use Rattle.std.proofs.Common.{◌≡◌, ◌≢◌, ◌<◌, ℕ, Bool, true, false, List, [], ◌∷◌, map, Option, Some, refl, sym, ◌∙◌, ap, subst, arith}
 use Rattle.std.specs.Prelude.{IsTrue, ◌||◌, ◌&&◌, is_some, unwrap_or, slice_get, nat_lt, fold, if◌then◌else◌}
 use Rattle.std.specs.List.{list_any}
 use Rattle.scr_base.specs.declared.shape.DataId.{DataId}
@@ -8,7 +8,7 @@ use Rattle.node_device.specs.File.{MayLeave}
 use Rattle.node_device.specs.DeviceState.{DeviceState}
 use Rattle.ckpt_model.specs.declared.event.FoundRow.{FoundRow}
 use Rattle.ckpt_model.specs.declared.event.EntryRow.{EntryRow}
-use Rattle.ckpt_model.specs.Machine.{Machine, Setup, Kept, MemberState, Stage}
+use Rattle.ckpt_model.specs.Machine.{Machine, Setup, Kept}
 use Rattle.ckpt_model.specs.Loss.{kept_without_all, kept_found, looked, kept_taken_up}
 use Rattle.ckpt_model.specs.Proper.{IsProper}
 use Rattle.ckpt_model.specs.Questions.{is_kept, is_id_of}
@@ -19,10 +19,10 @@ use Rattle.site_stands.specs.View.{Opens, Seals}
 use Rattle.site_stands.specs.Members.{KeptStands, NoneSealed, IsBare}
 use Rattle.site_stands.specs.Site.{NodesStand}
 use Rattle.site_stands.specs.Frame.{LeavesNoMore}
-use Rattle.site_stands.specs.Look.{IsUntouched, RowShows, IsList}
-use Rattle.site_stands.proofs.Lists.{kept_at, any_there, physical_low}
+use Rattle.site_stands.specs.Look.{IsUntouched, IsList}
+use Rattle.site_stands.proofs.Lists.{kept_at, any_there}
 use Rattle.site_stands.proofs.Safety.Nodes.{has_all}
-use Rattle.site_stands.proofs.Rise.{KeptRise, proper_rises}
+use Rattle.site_stands.proofs.Rise.{proper_rises}
 use Rattle.site_stands.proofs.Losing.Node.{nodes_off, proper_off}
 use Rattle.site_stands.proofs.Finding.Kept.{unseen_unsealed, unseen_may_leave, seen_may_find, found_stands, taken_stands, taken_dataset}
 use Rattle.site_stands.proofs.Finding.Rows.{MayLook, LooksAs, may_look}

@@ -1,25 +1,24 @@
 -- One kept dataset at the look: what it leaves is what the devices hold.
-use Rattle.std.proofs.Common.{◌≡◌, ◌≢◌, ◌<◌, ◌≤◌, ◌+◌, ◌⊎◌, inl, inr, ℕ, zero, suc, Bool, true, false, List, [], ◌∷◌, ◌++◌, map, length, Option, Some, None, refl, sym, ◌∙◌, ap, subst, arith}
-use Rattle.std.specs.Prelude.{IsTrue, ◌||◌, ◌&&◌, ◌==◌, not, nat_lt, filter, fold, slice_get, slice_index, if◌then◌else◌}
-use Rattle.std.specs.List.{list_any, list_all}
-use Rattle.std.proofs.lemmas.Bool.{cases_eq}
+use Rattle.std.proofs.Common.{◌≡◌, ◌<◌, ◌+◌, ℕ, zero, suc, Bool, true, false, List, [], ◌∷◌, ◌++◌, length, Option, Some, refl, sym, ◌∙◌, ap, subst, arith}
+use Rattle.std.specs.Prelude.{IsTrue, ◌||◌, ◌&&◌, ◌==◌, not, nat_lt, slice_get, slice_index, if◌then◌else◌}
+use Rattle.std.specs.List.{list_all}
 use Rattle.std.proofs.lemmas.Bool.Decides.{nat_tests}
 use Rattle.scr_base.specs.declared.shape.DataId.{DataId}
 use Rattle.scr_base.specs.declared.shape.Shape.{Shape}
 use Rattle.scr_base.specs.Sets.{is_among}
-use Rattle.node_device.specs.File.{File, MayLeave}
+use Rattle.node_device.specs.File.{MayLeave}
 use Rattle.node_device.specs.DeviceState.{DeviceState}
 use Rattle.gated_record.specs.Record.{IsOpen}
 use Rattle.member_store.specs.Names.{record_name}
 use Rattle.ckpt_model.specs.declared.event.FoundRow.{FoundRow}
-use Rattle.ckpt_model.specs.Dataset.{Dataset, bears}
-use Rattle.ckpt_model.specs.Machine.{Machine, Kept, MemberState, Mark}
+use Rattle.ckpt_model.specs.Dataset.{bears}
+use Rattle.ckpt_model.specs.Machine.{Kept, MemberState, Mark}
 use Rattle.ckpt_model.specs.Loss.{has_no_home, map_members, homeless_from, lost_nodes, may_miss, may_find, may_leave, member_found, kept_found, member_mending, kept_taken_up}
 use Rattle.ckpt_model.proofs.LookLemmas.{may_miss_each}
-use Rattle.site_stands.specs.Cells.{cells_of, physical_nodes}
+use Rattle.site_stands.specs.Cells.{cells_of}
 use Rattle.site_stands.specs.View.{Opens, Seals, Reads}
-use Rattle.site_stands.specs.Members.{HomeHolds, CopyHolds, NodeStands, KeptStands, NoneSealed}
-use Rattle.site_stands.specs.Look.{IsFixed, IsUntouched, RowShows}
+use Rattle.site_stands.specs.Members.{HomeHolds, NodeStands, KeptStands, NoneSealed}
+use Rattle.site_stands.specs.Look.{IsUntouched, RowShows}
 use Rattle.site_stands.proofs.Safety.Nodes.{reads_of}
 
 -- ## Lists of members

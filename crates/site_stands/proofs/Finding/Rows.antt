@@ -1,12 +1,11 @@
 -- The recoverer's list is one that a look may find, and what it leaves is what the devices hold.
-use Rattle.std.proofs.Common.{◌≡◌, ◌≢◌, ◌<◌, ◌≤◌, ◌+◌, ◌⊎◌, inl, inr, ℕ, zero, suc, Bool, true, false, List, [], ◌∷◌, map, length, Option, Some, None, refl, sym, ◌∙◌, ap, subst, arith}
-use Rattle.std.specs.Prelude.{IsTrue, ◌||◌, ◌&&◌, is_some, unwrap_or, slice_get, if◌then◌else◌}
-use Rattle.std.specs.List.{list_any}
+use Rattle.std.proofs.Common.{◌≡◌, ℕ, zero, suc, Bool, true, false, List, [], ◌∷◌, Some, None, refl, sym, ◌∙◌, ap, subst, arith}
+use Rattle.std.specs.Prelude.{IsTrue, slice_get, if◌then◌else◌}
 use Rattle.std.specs.Option.{option_map}
 use Rattle.scr_base.specs.declared.shape.DataId.{DataId}
 use Rattle.scr_base.specs.Same.{same_id}
 use Rattle.ckpt_model.specs.declared.event.FoundRow.{FoundRow}
-use Rattle.ckpt_model.specs.Machine.{Machine, Kept}
+use Rattle.ckpt_model.specs.Machine.{Kept}
 use Rattle.ckpt_model.specs.Loss.{may_find, may_leave, kept_found, looked}
 use Rattle.ckpt_model.proofs.Plays.{same_id_is}
 use Rattle.ckpt_model.proofs.SameLemmas.{id-same}

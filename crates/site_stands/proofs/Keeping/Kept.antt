@@ -1,21 +1,19 @@
 -- What is said of one dataset, entry or pair stays so while another's files are changed, and through every sync, done or refused.
-use Rattle.std.proofs.Common.{◌≡◌, ◌≢◌, ◌<◌, ◌≤◌, ◌+◌, ◌*◌, ◌^◌, ◌⊎◌, inl, inr, ℕ, zero, suc, Bool, true, false, List, [], ◌∷◌, length, map, Option, Some, None, refl, sym, ◌∙◌, ap, subst, arith}
+use Rattle.std.proofs.Common.{◌≡◌, ◌≢◌, ◌<◌, ◌≤◌, ◌+◌, ◌*◌, ◌^◌, inl, inr, ℕ, Bool, false, List, [], length, map, Option, Some, None, refl, sym, ◌∙◌, ap, subst, arith}
 use Rattle.std.specs.Prelude.{slice_get, option_map, unwrap_or, All, codes}
-use Rattle.std.proofs.lemmas.Bool.{cases_eq}
 use Rattle.std.proofs.lemmas.Bool.Decides.{nat_tests}
 use Rattle.std.proofs.lemmas.Option.{slice_get_within, slice_get-map}
 use Rattle.scr_base.specs.declared.shape.DataId.{DataId}
 use Rattle.scr_base.specs.declared.shape.Shape.{Shape}
-use Rattle.node_device.specs.File.{File, MayLeave, IsPartlySynced}
-use Rattle.node_device.specs.DeviceState.{DeviceState, ChangesOnly}
-use Rattle.gated_record.specs.PairStages.{IsCopyName, PairLeaves}
+use Rattle.node_device.specs.File.{File, MayLeave}
+use Rattle.node_device.specs.DeviceState.{DeviceState}
+use Rattle.gated_record.specs.PairStages.{PairLeaves}
 use Rattle.gated_record.specs.declared.pair.PairValue.{PairValue}
 use Rattle.gate_outcomes.specs.Leaves.{Leaves}
 use Rattle.dataset_desc.specs.declared.desc.Desc.{Desc}
-use Rattle.filemap.specs.Maps.{IsMap}
 use Rattle.filemap.specs.Rows.{IsRows}
 use Rattle.filemap.specs.declared.rows.FileRow.{FileRow}
-use Rattle.member_store.specs.Names.{record_name, part_name, IsPlace, IsPart, IsNameOf}
+use Rattle.member_store.specs.Names.{record_name, part_name, IsPlace}
 use Rattle.member_store.specs.declared.part.Part.TheVariants.{File as FilePart, Share as SharePart}
 use Rattle.ckpt_model.specs.Dataset.{Dataset, files_of, File as RankFile}
 use Rattle.ckpt_model.specs.Machine.{Machine, Setup, Kept, MemberState, Entry, EntryMark, Pending}
@@ -26,12 +24,12 @@ use Rattle.site_stands.specs.Cells.{physical_nodes, prefix_place}
 use Rattle.site_stands.specs.Entry.{entry_name, flushed_name, ReadsEntry}
 use Rattle.site_stands.specs.Described.{Describes, IsFileAt}
 use Rattle.site_stands.specs.View.{Reads}
-use Rattle.site_stands.specs.Members.{MemberStands, HomeHolds, IsCopy, NodeStands, KeptStands, NoneSealed, NoneReads, ShareStands}
+use Rattle.site_stands.specs.Members.{MemberStands, HomeHolds, NodeStands, KeptStands, NoneSealed, NoneReads}
 use Rattle.site_stands.specs.Prefix.{EntryStands, GatesFit, EntryHolds, OfEntry, IsIndexed, PairsStand}
 use Rattle.site_stands.specs.Site.{NodesStand, PrefixStands, SiteStands}
 use Rattle.site_stands.specs.Frame.{LeavesNoMore, KeepsAll, KeepsDataset, KeepsPrefix, KeepsEntry, KeepsPair}
 use Rattle.site_stands.specs.Moves.{MovesDataset, HoldsOne, MovesEntry, EntryOne}
-use Rattle.site_stands.proofs.Lists.{physical_low, same_or_other, any_there, not_both}
+use Rattle.site_stands.proofs.Lists.{physical_low, same_or_other}
 
 pub leaves_kept : (P : Option (List ℕ) → Type 0) (f g : File) → LeavesNoMore f g → Leaves f P → Leaves g P
 leaves_kept P f g no_more leaves o may = leaves o (no_more o may)

@@ -1,19 +1,16 @@
 -- A node is lost between two runs.
-use Rattle.std.proofs.Common.{◌≡◌, ◌≢◌, ◌⊎◌, inl, inr, ◌<◌, ◌≤◌, ◌+◌, ℕ, Bool, List, Option, Some, None, refl, sym, ◌∙◌, ap, subst, arith}
-use Rattle.std.specs.Prelude.{slice_get, codes}
+use Rattle.std.proofs.Common.{◌≡◌, ◌≢◌, ◌⊎◌, inl, inr, ◌<◌, ◌≤◌, ℕ, List, sym, ◌∙◌, ap, subst, arith}
+use Rattle.std.specs.Prelude.{codes}
 use Rattle.std.proofs.lemmas.Bool.{cases_eq}
-use Rattle.scr_base.specs.declared.shape.DataId.{DataId}
 use Rattle.node_device.specs.File.{MayLeave, IsEmpty, IsAtRest}
 use Rattle.node_device.specs.DeviceState.{DeviceState}
-use Rattle.node_device.specs.Outcomes.{rest_leaves}
 use Rattle.member_store.specs.Names.{record_name}
-use Rattle.ckpt_model.specs.Machine.{Machine, Setup, Kept}
-use Rattle.ckpt_model.specs.Shows.{Shows, ShowsPrefix, IsEntryAt}
+use Rattle.ckpt_model.specs.Machine.{Machine, Setup}
 use Rattle.ckpt_model.specs.Steps.{after_loss}
-use Rattle.site_stands.specs.Cells.{Cells, cells_of, IsQuiet, physical_nodes, prefix_place}
+use Rattle.site_stands.specs.Cells.{cells_of, IsQuiet, physical_nodes, prefix_place}
 use Rattle.site_stands.specs.Entry.{ReadsEntry, entry_name}
 use Rattle.site_stands.specs.View.{Names, Lists, IsEntryOf, Reads, site_view}
-use Rattle.site_stands.specs.Site.{Stands, SiteStands, NodesStand}
+use Rattle.site_stands.specs.Site.{Stands, SiteStands}
 use Rattle.site_stands.proofs.Lists.{physical_low, below_or_not}
 use Rattle.site_stands.proofs.Keeping.Kept.{same_file}
 use Rattle.site_stands.proofs.Safety.Nodes.{nodes_show}

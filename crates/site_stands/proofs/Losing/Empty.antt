@@ -1,11 +1,9 @@
 -- Devices that hold nothing stand for the state after no run.
-use Rattle.std.proofs.Common.{◌≡◌, ◌≤◌, ◌<◌, ◌⊎◌, inl, inr, ℕ, true, false, List, [], Option, Some, None, refl, sym, ap, ◌∙◌, subst, arith, codes}
-use Rattle.std.specs.Prelude.{slice_get}
+use Rattle.std.proofs.Common.{◌≡◌, ◌≤◌, ◌<◌, inl, inr, ℕ, List, Option, None, refl, ap, ◌∙◌, subst, arith, codes}
 use Rattle.scr_base.specs.declared.shape.DataId.{DataId}
 use Rattle.node_device.specs.File.{IsEmpty}
 use Rattle.node_device.specs.DeviceState.{DeviceState}
 use Rattle.gated_record.specs.Pair.{newer, value_in, copy_name, pair_value}
-use Rattle.gated_record.specs.declared.pair.PairValue.{PairValue}
 use Rattle.halt_file.specs.Stores.{halt_in}
 use Rattle.member_store.specs.Names.{record_name}
 use Rattle.ckpt_model.specs.Machine.{Setup, empty_machine}

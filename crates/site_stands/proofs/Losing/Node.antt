@@ -1,31 +1,30 @@
 -- A physical node on which no record is left: the devices stand for the state after its loss.
-use Rattle.std.proofs.Common.{◌≡◌, ◌≢◌, ◌<◌, ◌≤◌, ◌+◌, ◌⊎◌, inl, inr, ℕ, zero, suc, Bool, true, false, List, [], ◌∷◌, length, map, Option, Some, None, refl, sym, ◌∙◌, ap, subst, arith}
-use Rattle.std.specs.Prelude.{IsTrue, slice_get, not, filter, ◌==◌, ◌&&◌, ◌||◌, if◌then◌else◌, ◌++◌, nat_lt}
-use Rattle.std.specs.List.{list_any, list_all, AllByRecursion}
+use Rattle.std.proofs.Common.{◌≡◌, ◌≢◌, ◌<◌, ◌⊎◌, inl, inr, ℕ, Bool, true, false, List, [], ◌∷◌, map, Option, Some, None, refl, sym, ◌∙◌, ap, subst, arith}
+use Rattle.std.specs.Prelude.{IsTrue, slice_get, not, filter, ◌==◌, ◌||◌, if◌then◌else◌}
+use Rattle.std.specs.List.{list_any}
 use Rattle.std.proofs.lemmas.Bool.{cases_eq}
 use Rattle.std.proofs.lemmas.Bool.Decides.{nat_tests}
 use Rattle.scr_base.specs.declared.shape.DataId.{DataId}
 use Rattle.scr_base.specs.Sets.{is_among}
-use Rattle.node_device.specs.File.{File, MayLeave, IsEmpty, bytes_of}
+use Rattle.node_device.specs.File.{MayLeave, IsEmpty}
 use Rattle.node_device.specs.DeviceState.{DeviceState}
 use Rattle.node_device.specs.Outcomes.{rest_leaves}
-use Rattle.ckpt_model.specs.Dataset.{Dataset}
 use Rattle.ckpt_model.specs.Machine.{Machine, Setup, Kept, MemberState}
 use Rattle.ckpt_model.specs.Loss.{has_no_home, member_off, member_without, kept_without}
-use Rattle.ckpt_model.specs.Questions.{is_kept, is_id_of}
+use Rattle.ckpt_model.specs.Questions.{is_id_of}
 use Rattle.ckpt_model.specs.Steps.{after_loss}
-use Rattle.ckpt_model.specs.Proper.{IsProper, AreApart, datasets, is_of_site, ids_rise, has_members, has_homes}
+use Rattle.ckpt_model.specs.Proper.{IsProper}
 use Rattle.ckpt_model.proofs.ShowsLemmas.{mapped_at}
 use Rattle.member_store.specs.Names.{record_name}
 use Rattle.site_stands.specs.Cells.{physical_nodes, prefix_place}
 use Rattle.site_stands.specs.View.{Reads}
 use Rattle.site_stands.specs.Members.{IsBare, HomeHolds, NodeStands, KeptStands, NoneSealed, NoneReads}
 use Rattle.site_stands.specs.Site.{NodesStand, PrefixStands, SiteStands}
-use Rattle.site_stands.specs.Frame.{KeepsDataset, KeepsPrefix, LeavesNoMore}
+use Rattle.site_stands.specs.Frame.{KeepsPrefix, LeavesNoMore}
 use Rattle.model_proper.proofs.Lists.{thins_self, thins_same}
 use Rattle.model_proper.proofs.Fair.Passes.{of_kept, of_index, thinner_proper}
 use Rattle.model_proper.proofs.Kept.Held.{held_without, same_kept, held_all}
-use Rattle.site_stands.proofs.Keeping.Kept.{member_kept, home_kept, read_place, prefix_kept}
+use Rattle.site_stands.proofs.Keeping.Kept.{prefix_kept}
 
 -- nothing reads where there is nothing
 pub none_reads : (s : Setup) (which : DataId) (node : ℕ) → Reads s.shape None which node → ⊥

@@ -1,10 +1,9 @@
 -- Where nothing is pending, what reads give is all that a stop may leave: so devices that stand for a state between two runs hold it file by file.
-use Rattle.std.proofs.Common.{◌≡◌, ◌≢◌, ◌<◌, ◌≤◌, ◌+◌, ◌⊎◌, inl, inr, ℕ, Bool, true, false, List, [], ◌∷◌, map, Option, Some, None, refl, sym, ◌∙◌, ap, subst, arith}
+use Rattle.std.proofs.Common.{◌≡◌, ◌<◌, inl, inr, ℕ, Bool, false, List, Option, Some, refl, sym, ◌∙◌, subst, arith}
 use Rattle.std.specs.Prelude.{IsTrue, slice_get, codes}
-use Rattle.std.proofs.Math.Path.{fun_ext}
 use Rattle.scr_base.specs.declared.shape.DataId.{DataId}
 use Rattle.scr_base.specs.Sets.{is_among}
-use Rattle.node_device.specs.File.{File, MayLeave, IsAtRest}
+use Rattle.node_device.specs.File.{File, IsAtRest}
 use Rattle.node_device.specs.DeviceState.{DeviceState}
 use Rattle.node_device.specs.Outcomes.{rest_leaves}
 use Rattle.gated_record.specs.Record.{IsOpen, is_open}
@@ -12,23 +11,19 @@ use Rattle.gated_record.specs.Pair.{copy_name, newer, value_in}
 use Rattle.gate_outcomes.specs.Leaves.{Leaves}
 use Rattle.member_store.specs.Names.{record_name, part_name}
 use Rattle.member_store.specs.declared.part.Part.TheVariants.{File as FilePart, Share as SharePart}
-use Rattle.ckpt_model.specs.Dataset.{Dataset, File as RankFile}
-use Rattle.ckpt_model.specs.Machine.{Machine, Setup, Kept, MemberState, Entry, EntryMark, Pending, Stage}
-use Rattle.ckpt_model.specs.Loss.{has_no_home}
+use Rattle.ckpt_model.specs.Dataset.{Dataset}
+use Rattle.ckpt_model.specs.Machine.{Machine, Setup, Kept, MemberState, Entry, EntryMark, Pending}
 use Rattle.ckpt_model.specs.Questions.{is_kept, is_failed}
-use Rattle.ckpt_model.specs.Stops.{Choice, may_stop, may_make, may_choose, after_stop, pending_of, halt_left, mark_left}
-use Rattle.ckpt_model.specs.Moves.{after}
-use Rattle.ckpt_model.specs.Shows.{Shows, IsMemberAt, StandsAtHome, IsOfKept, IsLeftOver}
-use Rattle.ckpt_model.specs.declared.event.Event.{Event}
+use Rattle.ckpt_model.specs.Stops.{pending_of, halt_left, mark_left}
+use Rattle.ckpt_model.specs.Shows.{Shows, StandsAtHome}
 use Rattle.ckpt_model.specs.declared.event.StopCause.{StopCause}
-use Rattle.ckpt_model.specs.Proper.{IsProper}
 use Rattle.site_stands.specs.Cells.{cells_of, IsQuiet, IsLeftBy, physical_nodes, prefix_place}
 use Rattle.site_stands.specs.Entry.{entry_name, flushed_name, ReadsEntry, mark_in}
-use Rattle.site_stands.specs.View.{Reads, Opens, Seals, IsMemberOf, IsEntryOf, Lists, site_view, run_in}
-use Rattle.site_stands.specs.Members.{MemberStands, HomeHolds, IsCopy, NodeStands, KeptStands, NoneSealed, NoneReads}
+use Rattle.site_stands.specs.View.{Reads, Opens, IsMemberOf, Lists, site_view, run_in}
+use Rattle.site_stands.specs.Members.{MemberStands, HomeHolds, KeptStands, NoneSealed, NoneReads}
 use Rattle.site_stands.specs.Prefix.{NeverOpen, EntryStands, GatesFit, EntryHolds, OfEntry, PairsStand}
-use Rattle.site_stands.specs.Site.{Stands, NodesStand, PrefixStands, SiteStands, IsSafeToStop, StandsAfterStop}
-use Rattle.site_stands.proofs.Lists.{physical_low, any_there, not_both}
+use Rattle.site_stands.specs.Site.{Stands, SiteStands, IsSafeToStop, StandsAfterStop}
+use Rattle.site_stands.proofs.Lists.{any_there, not_both}
 use Rattle.site_stands.proofs.Safety.Index.{test_open, test_is}
 use Rattle.site_stands.proofs.Rise.{proper_alone}
 

@@ -1,25 +1,21 @@
 -- What the prefix is left with, as the index after a stop: an answer for each entry by itself.
-use Rattle.std.proofs.Common.{◌≡◌, ◌≢◌, ◌<◌, ◌≤◌, ◌+◌, ◌⊎◌, inl, inr, ℕ, zero, suc, Bool, true, false, List, [], ◌∷◌, ◌++◌, map, length, Option, Some, None, refl, sym, ◌∙◌, ap, subst, arith}
+use Rattle.std.proofs.Common.{◌≡◌, ◌⊎◌, inl, inr, ℕ, zero, suc, Bool, true, false, List, [], ◌∷◌, ◌++◌, map, Option, Some, refl, sym, ◌∙◌, ap, subst}
 use Rattle.std.specs.Prelude.{IsTrue, slice_get, ◌==◌, ◌&&◌, not, if◌then◌else◌, codes}
 use Rattle.std.proofs.lemmas.Bool.Decides.{eqb_tells}
 use Rattle.scr_base.specs.declared.shape.DataId.{DataId}
 use Rattle.scr_base.specs.Halt.{Halt}
-use Rattle.node_device.specs.File.{File, byte_at, MayLeave}
-use Rattle.node_device.specs.DeviceState.{DeviceState, IsOutcome}
-use Rattle.gated_record.specs.Record.{HasBody, IsOpen, is_open, open_gate_byte}
-use Rattle.gated_record.specs.Pair.{copy_name, pair_value}
-use Rattle.gate_outcomes.specs.Leaves.{Leaves}
+use Rattle.node_device.specs.File.{byte_at, MayLeave}
+use Rattle.node_device.specs.DeviceState.{DeviceState}
+use Rattle.gated_record.specs.Record.{IsOpen, is_open, open_gate_byte}
 use Rattle.gate_outcomes.specs.Gates.{StaysOpen}
-use Rattle.halt_file.specs.Stores.{halt_in}
 use Rattle.filemap.specs.Maps.{IsMap}
 use Rattle.ckpt_model.specs.Dataset.{Dataset}
 use Rattle.ckpt_model.specs.Machine.{Machine, Setup, Entry, EntryMark, Pending}
 use Rattle.ckpt_model.specs.Questions.{is_failed}
-use Rattle.ckpt_model.specs.Stops.{entry_left, entry_if, index_left, after_stop, pending_of, halt_left, mark_left, may_store, is_drop_of}
-use Rattle.ckpt_model.specs.Shows.{IsEntryAt, IsOfEntry, ShowsPrefix}
-use Rattle.site_stands.specs.Entry.{entry_name, entry_body, flushed_name, ReadsEntry, mark_in}
-use Rattle.site_stands.specs.View.{Lists, IsEntryOf, run_in}
-use Rattle.site_stands.specs.Prefix.{NeverOpen, EntryStands, StaysListed, GatesFit, EntryHolds, OfEntry, PairsStand}
+use Rattle.ckpt_model.specs.Stops.{entry_left, entry_if, index_left, pending_of, halt_left, mark_left, is_drop_of}
+use Rattle.site_stands.specs.Entry.{entry_name, flushed_name, ReadsEntry}
+use Rattle.site_stands.specs.View.{Lists, IsEntryOf}
+use Rattle.site_stands.specs.Prefix.{NeverOpen, EntryStands, StaysListed, GatesFit}
 use Rattle.site_stands.specs.Site.{PrefixStands}
 
 pub test_open : (o : Option (List ℕ)) (k : ℕ) → IsOpen o k → is_open o k ≡ true

@@ -1,24 +1,18 @@
 -- Whatever a stop leaves shows the state after that stop: the choice is made for each entry and each pair by itself.
-use Rattle.std.proofs.Common.{◌≡◌, ◌≢◌, ◌<◌, ◌≤◌, ◌+◌, ◌⊎◌, inl, inr, ℕ, Bool, true, false, List, [], ◌∷◌, map, Option, Some, None, refl, sym, ◌∙◌, ap, subst, arith}
-use Rattle.std.specs.Prelude.{IsTrue, slice_get, ◌&&◌, fold, if◌then◌else◌, codes}
-use Rattle.scr_base.specs.declared.shape.DataId.{DataId}
-use Rattle.scr_base.specs.Halt.{Halt}
+use Rattle.std.proofs.Common.{◌<◌, ◌≤◌, ◌+◌, ◌⊎◌, inl, inr, ℕ, Bool, true, false, List, [], Option, refl, ◌∙◌, arith}
+use Rattle.std.specs.Prelude.{IsTrue, if◌then◌else◌, codes}
 use Rattle.node_device.specs.File.{MayLeave}
 use Rattle.node_device.specs.DeviceState.{DeviceState}
-use Rattle.gated_record.specs.Pair.{copy_name, pair_value}
-use Rattle.ckpt_model.specs.Machine.{Machine, Setup, Entry, Stage, Pending}
-use Rattle.ckpt_model.specs.Moves.{after}
-use Rattle.ckpt_model.specs.Questions.{is_failed}
-use Rattle.ckpt_model.specs.Stops.{Choice, may_stop, may_make, may_store, may_choose, after_stop, pending_of, index_left, halt_left, mark_left}
-use Rattle.ckpt_model.specs.Shows.{Shows, ShowsMembers, IsMemberAt, IsOfKept, IsLeftOver, IsSafe}
-use Rattle.ckpt_model.specs.declared.event.Event.{Event}
-use Rattle.ckpt_model.specs.declared.event.StopCause.{StopCause}
+use Rattle.gated_record.specs.Pair.{copy_name}
+use Rattle.ckpt_model.specs.Machine.{Machine, Setup}
+use Rattle.ckpt_model.specs.Stops.{may_store, after_stop, pending_of}
+use Rattle.ckpt_model.specs.Shows.{Shows, ShowsMembers}
 use Rattle.site_stands.specs.Cells.{Cells, LeavesBay, prefix_place, physical_nodes}
 use Rattle.site_stands.specs.View.{Names, site_view}
-use Rattle.site_stands.specs.Site.{SiteStands, NodesStand}
+use Rattle.site_stands.specs.Site.{SiteStands}
 use Rattle.site_stands.proofs.Lists.{physical_low, below_or_not}
 use Rattle.site_stands.proofs.Safety.Nodes.{nodes_show}
-use Rattle.site_stands.proofs.Safety.Index.{answers, index_then, entry_shown, entry_exact, both_take}
+use Rattle.site_stands.proofs.Safety.Index.{answers, entry_shown, entry_exact, both_take}
 use Rattle.model_proper.proofs.Stops.{stop_proper}
 
 -- what is left of a bay that stands for a state

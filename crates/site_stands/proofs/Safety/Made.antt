@@ -1,16 +1,16 @@
 -- The first changes that a refused write may have made leave all but the datasets: so the stop is one of the state before them.
-use Rattle.std.proofs.Common.{◌≡◌, ◌+◌, ℕ, Bool, true, false, List, [], ◌∷◌, Option, Some, None, refl, sym, ◌∙◌, ap, subst}
+use Rattle.std.proofs.Common.{◌≡◌, ◌+◌, ℕ, Bool, true, false, List, [], ◌∷◌, Option, Some, None, refl, ◌∙◌, ap, subst}
 use Rattle.std.specs.Prelude.{IsTrue, ◌&&◌, fold, unwrap_or, option_map, if◌then◌else◌}
 use Rattle.std.specs.List.{list_all}
 use Rattle.scr_base.specs.declared.shape.DataId.{DataId}
 use Rattle.scr_base.specs.Halt.{Halt}
 use Rattle.node_device.specs.DeviceState.{DeviceState}
 use Rattle.ckpt_model.specs.Dataset.{Dataset}
-use Rattle.ckpt_model.specs.Machine.{Machine, Setup, Entry, Stage, Pending, Kept}
+use Rattle.ckpt_model.specs.Machine.{Machine, Setup, Stage, Kept}
 use Rattle.ckpt_model.specs.Moves.{may, after}
 use Rattle.ckpt_model.specs.Questions.{kept_of}
 use Rattle.ckpt_model.specs.Steps.{after_sealing, add_sealing, sealing_dataset, after_indexing, add_indexing}
-use Rattle.ckpt_model.specs.Stops.{Choice, may_stop, may_make, may_store, may_choose, after_stop, pending_of, index_left, halt_left, mark_left, is_first_change}
+use Rattle.ckpt_model.specs.Stops.{Choice, may_stop, may_make, may_store, after_stop, pending_of, index_left, halt_left, mark_left, is_first_change}
 use Rattle.ckpt_model.specs.Shows.{Shows}
 use Rattle.ckpt_model.specs.declared.event.Event.{Event}
 use Rattle.ckpt_model.specs.declared.event.Event.TheVariants as event

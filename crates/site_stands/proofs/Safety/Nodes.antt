@@ -1,29 +1,26 @@
 -- What a stop leaves of the nodes shows the members in cache.
 use Rattle.std.proofs.Common.{◌≡◌, ◌≢◌, ◌⊎◌, inl, inr, ◌<◌, ◌≤◌, ◌+◌, ◌*◌, ◌==◌, ℕ, Bool, true, false, List, length, Option, Some, None, refl, sym, ◌∙◌, ap, subst, arith}
 use Rattle.std.specs.Prelude.{IsTrue, slice_get}
-use Rattle.std.specs.List.{list_any}
 use Rattle.std.proofs.lemmas.Bool.Decides.{nat_tests}
-use Rattle.std.proofs.lemmas.Option.{slice_get_within, slice_get-get_or}
 use Rattle.scr_base.specs.declared.shape.DataId.{DataId}
 use Rattle.scr_base.specs.declared.shape.Shape.{Shape}
-use Rattle.scr_base.specs.Sets.{is_among}
-use Rattle.node_device.specs.File.{File, MayLeave}
+use Rattle.node_device.specs.File.{MayLeave}
 use Rattle.node_device.specs.DeviceState.{DeviceState}
-use Rattle.gated_record.specs.Record.{HasBody, IsOpen, is_open}
+use Rattle.gated_record.specs.Record.{HasBody, is_open}
 use Rattle.filemap.specs.Maps.{IsMap}
 use Rattle.member_store.specs.Names.{record_name, part_name}
-use Rattle.member_store.specs.Members.{ReadsMember, IsMember, member_body}
+use Rattle.member_store.specs.Members.{member_body}
 use Rattle.member_store.specs.declared.member.Member.{Member}
 use Rattle.member_store.specs.declared.part.Part.TheVariants.{File as FilePart, Share as SharePart}
 use Rattle.ckpt_model.specs.Dataset.{Dataset}
 use Rattle.ckpt_model.specs.Machine.{Machine, Setup, Kept, MemberState}
 use Rattle.ckpt_model.specs.Proper.{IsProper, has_members}
 use Rattle.ckpt_model.specs.Questions.{is_kept}
-use Rattle.ckpt_model.specs.Shows.{IsMemberAt, StandsAtHome, IsOfKept, IsLeftOver, ShowsMembers}
+use Rattle.ckpt_model.specs.Shows.{StandsAtHome, IsOfKept, IsLeftOver, ShowsMembers}
 use Rattle.site_stands.specs.Cells.{Cells, physical_nodes, LeavesBay}
 use Rattle.site_stands.specs.Described.{Describes}
-use Rattle.site_stands.specs.View.{Reads, IsRecord, Opens, Seals, IsMemberOf, site_view}
-use Rattle.site_stands.specs.Members.{MemberStands, HomeHolds, IsCopy, NodeStands, KeptStands, NoneSealed}
+use Rattle.site_stands.specs.View.{Reads, Opens, IsMemberOf, site_view}
+use Rattle.site_stands.specs.Members.{MemberStands, HomeHolds}
 use Rattle.site_stands.specs.Site.{NodesStand}
 use Rattle.site_stands.proofs.Lists.{physical_low, kept_at, all_at}
 

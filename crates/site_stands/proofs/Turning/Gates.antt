@@ -1,12 +1,11 @@
 -- What gates that are turned node by node make of a dataset: unsealed before its sealing, then in doubt, then settled, and back.
-use Rattle.std.proofs.Common.{◌≡◌, ◌≢◌, ◌⊎◌, inl, inr, ◌<◌, ◌≤◌, ◌+◌, ◌==◌, ℕ, zero, suc, Bool, true, false, List, [], ◌∷◌, map, length, Option, Some, None, refl, sym, ◌∙◌, ap, subst, arith}
+use Rattle.std.proofs.Common.{◌≡◌, ◌≢◌, ◌⊎◌, inl, inr, ◌<◌, ◌+◌, ◌==◌, ℕ, Bool, true, false, List, [], ◌∷◌, Option, Some, None, refl, sym, ◌∙◌, ap, subst, arith}
 use Rattle.std.specs.Prelude.{IsTrue, slice_get, nat_lt, if◌then◌else◌, codes}
 use Rattle.std.proofs.lemmas.Bool.{cases_eq}
 use Rattle.std.proofs.lemmas.Bool.Decides.{nat_tests}
 use Rattle.scr_base.specs.Sets.{is_among}
-use Rattle.scr_base.specs.declared.shape.DataId.{DataId}
 use Rattle.scr_base.specs.declared.shape.Shape.{Shape}
-use Rattle.node_device.specs.File.{File, MayLeave, IsAtRest, byte_at}
+use Rattle.node_device.specs.File.{File, MayLeave, IsAtRest}
 use Rattle.node_device.specs.DeviceState.{DeviceState}
 use Rattle.node_device.specs.Outcomes.{rest_leaves}
 use Rattle.gated_record.specs.Record.{IsOpen}
@@ -14,13 +13,13 @@ use Rattle.gated_record.specs.PairStages.{PairLeaves, IsOldOrWanted}
 use Rattle.gated_record.specs.declared.pair.PairValue.{PairValue}
 use Rattle.member_store.specs.Names.{record_name}
 use Rattle.ckpt_model.specs.Dataset.{Dataset}
-use Rattle.ckpt_model.specs.Machine.{Machine, Setup, Kept, MemberState, Mark}
-use Rattle.ckpt_model.specs.Steps.{kept_sealing, members_at}
+use Rattle.ckpt_model.specs.Machine.{Machine, Kept, MemberState, Mark}
+use Rattle.ckpt_model.specs.Steps.{members_at}
 use Rattle.ckpt_model.specs.Stops.{may_store}
 use Rattle.ckpt_model.proofs.ShowsLemmas.{mapped_at}
 use Rattle.site_stands.specs.Cells.{physical_nodes}
 use Rattle.site_stands.specs.View.{run_in}
-use Rattle.site_stands.specs.Members.{MemberStands, HomeHolds, NodeStands, KeptStands, NoneSealed}
+use Rattle.site_stands.specs.Members.{NodeStands, KeptStands, NoneSealed}
 use Rattle.site_stands.specs.Prefix.{IsRunOf}
 use Rattle.site_stands.specs.Gate.{Gate, GateIs, synced, MemberIs, GatesHold}
 use Rattle.site_stands.proofs.Lists.{alone}

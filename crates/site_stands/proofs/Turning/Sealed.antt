@@ -1,34 +1,24 @@
 -- One move of the commit as its core states it: a gate `sealed` is written, done or refused; and what makes it safe.
-use Rattle.std.proofs.Common.{◌≡◌, ◌≢◌, ◌⊎◌, inl, inr, ◌<◌, ◌≤◌, ◌+◌, ◌^◌, ◌==◌, ℕ, zero, suc, Bool, true, false, List, [], ◌∷◌, length, Option, Some, None, refl, sym, ◌∙◌, ap, subst, arith}
-use Rattle.std.specs.Prelude.{IsTrue, slice_get, ◌&&◌, fold, nat_lt, if◌then◌else◌}
+use Rattle.std.proofs.Common.{◌≡◌, ◌≢◌, inl, inr, ◌<◌, ℕ, Bool, true, false, List, [], ◌∷◌, Some, refl, sym, ◌∙◌, ap, subst, arith}
+use Rattle.std.specs.Prelude.{IsTrue, slice_get, ◌&&◌}
 use Rattle.std.proofs.lemmas.Bool.{cases_eq}
-use Rattle.std.proofs.lemmas.Bool.Decides.{nat_tests}
-use Rattle.scr_base.specs.declared.shape.DataId.{DataId}
 use Rattle.scr_base.specs.declared.shape.Shape.{Shape}
-use Rattle.node_device.specs.File.{File, MayLeave}
-use Rattle.node_device.specs.DeviceState.{DeviceState, ChangesOnly}
-use Rattle.gated_record.specs.Record.{IsOpen, KeepsBody}
-use Rattle.gate_outcomes.specs.Gates.{StaysOpen}
-use Rattle.member_store.specs.Names.{record_name, part_name, IsPlace, IsNameOf, IsPart}
-use Rattle.member_store.specs.declared.part.Part.{Part}
+use Rattle.node_device.specs.DeviceState.{DeviceState}
+use Rattle.member_store.specs.Names.{record_name, part_name, IsPlace}
 use Rattle.member_store.specs.declared.part.Part.TheVariants.{File as FilePart, Share as SharePart}
-use Rattle.ckpt_model.specs.Dataset.{Dataset, File as RankFile}
+use Rattle.ckpt_model.specs.Dataset.{Dataset}
 use Rattle.ckpt_model.specs.Machine.{Machine, Setup, Kept, Mark}
-use Rattle.ckpt_model.specs.Moves.{may, after}
-use Rattle.ckpt_model.specs.Questions.{is_kept}
-use Rattle.ckpt_model.specs.Steps.{add_sealing, kept_sealing, members_at}
-use Rattle.ckpt_model.specs.Stops.{may_stop, may_make}
-use Rattle.ckpt_model.specs.Proper.{IsProper}
-use Rattle.ckpt_model.specs.declared.event.Event.{Event}
+use Rattle.ckpt_model.specs.Moves.{may}
+use Rattle.ckpt_model.specs.Steps.{add_sealing, kept_sealing}
+use Rattle.ckpt_model.specs.Stops.{may_stop}
 use Rattle.ckpt_model.specs.declared.event.Event.TheVariants as event
 use Rattle.ckpt_model.specs.declared.event.StopCause.TheVariants as cause
 use Rattle.model_proper.specs.Next.{IsSealedNext}
 use Rattle.site_stands.specs.Cells.{physical_nodes, prefix_place}
-use Rattle.site_stands.specs.Described.{IsFileAt}
 use Rattle.site_stands.specs.Members.{MemberStands, KeptStands, NoneReads}
 use Rattle.site_stands.specs.Site.{PrefixStands, SiteStands, IsSafeToStop}
-use Rattle.site_stands.specs.Frame.{LeavesNoMore, KeepsDataset}
-use Rattle.site_stands.specs.Moves.{MovesDataset, HoldsOne}
+use Rattle.site_stands.specs.Frame.{LeavesNoMore}
+use Rattle.site_stands.specs.Moves.{MovesDataset}
 use Rattle.site_stands.specs.Gate.{Gate, GateIs, MemberIs, GatesHold, TurnsOneGate}
 use Rattle.site_stands.proofs.Keeping.Kept.{same_file, read_place, nodes_step, prefix_kept}
 use Rattle.site_stands.proofs.Changes.Nodes.{sealing_event}
