@@ -8,9 +8,6 @@ use Rattle.node_device.specs.DeviceState.{DeviceState, IsSound}
 use Rattle.node_device.specs.Calls.{Crashes}
 use Rattle.node_device.specs.Rack.{Rack, nowhere, device_at, with_device, states_of, OnlyAt}
 
-below_or_past : (place : ℕ) → place ≢ 32 → (place < 32) ⊎ (32 < place)
-below_or_past place ne = grind arith
-
 below_or_not : (k n : ℕ) → (k < n) ⊎ (n ≤ k)
 below_or_not k n = grind arith
 
@@ -75,24 +72,30 @@ module _ {D : Type 0} (state : D → DeviceState) (rack : Rack D) (full : length
       others = others_moved left;
     }
 
--- what holds of each device before and after holds at each place
-pub at_each : {D : Type 0} (state : D → DeviceState) (old new : Rack D) (R : DeviceState → DeviceState → Type 0) → length old.nodes ≡ 32 → length new.nodes ≡ 32
-    → ((k : ℕ) → k < 32 → (d : D) → R (state (get_or old.nodes k d)) (state (get_or new.nodes k d)))
-    → R (state old.prefix) (state new.prefix) → R nowhere nowhere → (place : ℕ) → R (states_of state old place) (states_of state new place)
-at_each state old new R old_full new_full nodes prefix none place = elim (cases_eq place 32) [
-  | inl is ↦ subst (λ (k : ℕ). R (states_of state old k) (states_of state new k)) (sym is)
-      (subst (λ (s : DeviceState). R s (states_of state new 32)) (sym (states_of-prefix state old old_full)) (subst (λ (s : DeviceState). R (state old.prefix) s) (sym (states_of-prefix state new new_full)) prefix))
-  | inr ne ↦
-      let other : place ≢ 32 = ne in
-      elim (below_or_past place other) [
-        | inl lt ↦
-            subst (λ (s : DeviceState). R s (states_of state new place)) (sym (states_of-node state old old_full place old.prefix lt))
-            (subst (λ (s : DeviceState). R (state (get_or old.nodes place old.prefix)) s) (sym (states_of-node state new new_full place old.prefix lt)) (nodes place lt old.prefix))
-        | inr past ↦
-            subst (λ (s : DeviceState). R s (states_of state new place)) (sym (states_of-past state old old_full place past))
-            (subst (λ (s : DeviceState). R nowhere s) (sym (states_of-past state new new_full place past)) none)
-      ]
-]
+within_or_past : (place : ℕ) → (place ≤ 32) ⊎ (32 < place)
+within_or_past place = grind arith
+
+module _ {D : Type 0} (state : D → DeviceState) (old new : Rack D) (R : DeviceState → DeviceState → Type 0) (old_full : length old.nodes ≡ 32) (new_full : length new.nodes ≡ 32) (nodes : (k : ℕ) → k < 32 → (d : D) → R (state (get_or old.nodes k d)) (state (get_or new.nodes k d))) (prefix : R (state old.prefix) (state new.prefix)) where
+  -- what holds of each device before and after holds at its place
+  pub at_device : (place : ℕ) → place ≤ 32 → R (states_of state old place) (states_of state new place)
+  at_device place le = elim (cases_eq place 32) [
+    | inl is ↦ subst (λ (k : ℕ). R (states_of state old k) (states_of state new k)) (sym is)
+        (subst (λ (s : DeviceState). R s (states_of state new 32)) (sym (states_of-prefix state old old_full)) (subst (λ (s : DeviceState). R (state old.prefix) s) (sym (states_of-prefix state new new_full)) prefix))
+    | inr ne ↦
+        let other : place ≢ 32 = ne in
+        let lt : place < 32 = grind arith in
+        subst (λ (s : DeviceState). R s (states_of state new place)) (sym (states_of-node state old old_full place old.prefix lt))
+        (subst (λ (s : DeviceState). R (state (get_or old.nodes place old.prefix)) s) (sym (states_of-node state new new_full place old.prefix lt)) (nodes place lt old.prefix))
+  ]
+
+  -- and at each place, where it holds of no device
+  pub at_each : R nowhere nowhere → (place : ℕ) → R (states_of state old place) (states_of state new place)
+  at_each none place = elim (within_or_past place) [
+    | inl le ↦ at_device place le
+    | inr past ↦
+        subst (λ (s : DeviceState). R s (states_of state new place)) (sym (states_of-past state old old_full place past))
+        (subst (λ (s : DeviceState). R nowhere s) (sym (states_of-past state new new_full place past)) none)
+  ]
 
 -- a stop finds nothing where there is no device
 pub nowhere_crashes : Crashes nowhere nowhere
@@ -101,6 +104,11 @@ nowhere_crashes = record {
   outcome = λ told q. inr refl;
   at_rest = λ q. record { stable = refl; untouched = λ k. refl; not_fluid = refl; greatest = refl };
 }
+
+-- a device was stopped, and left what this says
+pub record IsStopBy (Leaves : DeviceState → DeviceState → Type 0) (old new : DeviceState) : Type 0 where
+  pub crashes : Crashes old new
+  pub leaves : Leaves old new
 
 -- the first i devices were used, one after another
 pub record AreDone {D : Type 0} (state : D → DeviceState) (Done : DeviceState → DeviceState → Type 0) (i : ℕ) (old new : List D) : Type 0 where

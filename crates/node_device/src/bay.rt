@@ -161,10 +161,11 @@ impl<D: Device> Bay<D> {
         self.at(place).faults()
     }
 
-    /// Stops every device.
+    /// Stops every device, each with this number.
     pub fn stop(&mut self, pick: u8)
         requires { pick ≤ 3 }
-        ensures { (place : ℕ) → Crashes (states_of D.state self.old place) (states_of D.state self.new place) }
+        ensures picked { (place : ℕ) → place ≤ 32 → D.leaves pick (states_of D.state self.old place) (states_of D.state self.new place) }
+        ensures each { (place : ℕ) → Crashes (states_of D.state self.old place) (states_of D.state self.new place) }
     {
         for i in 0..self.nodes.len() {
             self.nodes[i].crash(pick);

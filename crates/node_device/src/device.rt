@@ -30,6 +30,9 @@ pub trait Device {
     /// What it holds, what is stable, and what a stop may leave.
     ghost state: { Self → DeviceState };
 
+    /// What a stop with a number leaves, where the device tells it.
+    ghost leaves: { ℕ → DeviceState → DeviceState → Type 0 } = { λ pick old new. Unit {0} };
+
     /// The length of a file, in bytes. `Failed`; `NoFile` exactly where there is no such file.
     fn size(&mut self, name: &[u8]) -> Result<u64, DevError>
         requires { IsDeviceName name.now }
@@ -98,6 +101,7 @@ pub trait Device {
     /// `pick` names, from 0 to 3.
     fn crash(&mut self, pick: u8)
         requires { pick ≤ 3 }
+        ensures picked { leaves pick (state self.old) (state self.new) }
         ensures tells { TellsOn (state self.old) (state self.new) }
         ensures outcome { (state self.new).tells ≡ true → (q : List ℕ) → MayLeave ((state self.old).file q) ((state self.new).file q).now }
         ensures at_rest { (q : List ℕ) → IsAtRest ((state self.new).file q) };

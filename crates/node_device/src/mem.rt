@@ -1,5 +1,5 @@
 // A device in memory.
-ghost use Rattle.std.specs.Prelude.{◌≡◌, ◌≢◌, ◌<◌, ◌≤◌, ◌⊎◌, ◌+◌, ◌-◌, ◌^◌, ℕ, Bool, true, false, List, [], Option, None, Some, Ok, Err, map, take, length, get_or, MatchOption, IfOk, OnOk, OnErr, IfErr, not, if◌then◌else◌};
+ghost use Rattle.std.specs.Prelude.{◌≡◌, ◌≢◌, ◌<◌, ◌≤◌, ◌⊎◌, ◌+◌, ◌-◌, ◌^◌, ℕ, Bool, true, false, List, [], drop, Option, None, Some, Ok, Err, map, take, length, get_or, MatchOption, IfOk, OnOk, OnErr, IfErr, not, if◌then◌else◌};
 ghost use Rattle.std.specs.Cmp.Lexicographic.{slice_cmp};
 ghost use Rattle.std.specs.Ordering.{nat_cmp};
 ghost use Rattle.std.specs.declared.cmp.Ordering.TheVariants.{Less};
@@ -13,7 +13,7 @@ ghost use Rattle.node_device.specs.Entries.{name_at, file_at, names_of, used_by,
 use crate::entry::Entry;
 use crate::outcome::Outcome;
 use crate::{DevError, Device};
-use scr_base::{Bytes, Memory};
+use scr_base::{Bytes, Failing, Memory};
 use std::alloc::{AllocError, Global};
 use std::cmp::Ordering;
 
@@ -26,13 +26,11 @@ pub struct MemDevice {
     entries: Vec<Entry>,
     used: u64,
     capacity: u64,
-    calls: u64,
-    faults: u64,
-    fail: Vec<u64>,
+    failing: Failing,
     ghost ascending: { IsAscending (map entry_name entries.items) },
     ghost counted: { used ≡ used_by entries.items },
     ghost few: { length entries.items ≤ 2 ^ 33 },
-    ghost fits: { faults < 2 ^ 64 },
+    ghost fits: { failing.faults < 2 ^ 64 },
 }
 
 const MAX_END: u64 = 1073741824;
@@ -139,7 +137,7 @@ fn check_new(used: u64, capacity: u64, count: usize, at: usize, len: usize) -> R
 }
 
 impl MemDevice {
-    ghost use Rattle.node_device.specs.MemState.{mem_state};
+    ghost use Rattle.node_device.specs.MemState.{mem_state, failing_calls, calls_of, FailsIfListed, CountsCall};
     ghost use Rattle.node_device.specs.File.{IsEmpty};
     ghost use Rattle.node_device.specs.DeviceState.{IsUnchanged};
     ghost use Rattle.node_device.specs.Answers.{HasDeviceCause};
@@ -151,15 +149,15 @@ impl MemDevice {
         ensures empty { IfOk result (λ d. (q : List ℕ) → IsEmpty ((mem_state d).file q)) }
         ensures capacity { IfOk result (λ d. (mem_state d).capacity ≡ capacity) }
         ensures faults { IfOk result (λ d. (mem_state d).faults ≡ 0) }
+        ensures failing { IfOk result (λ d. failing_calls d ≡ fail.items) }
+        ensures calls { IfOk result (λ d. calls_of d ≡ 0) }
     {
         Ok(MemDevice {
             alloc,
             entries: Vec::new(alloc),
             used: 0,
             capacity,
-            calls: 0,
-            faults: 0,
-            fail,
+            failing: Failing::new(fail),
         })
     }
 
@@ -169,10 +167,11 @@ impl MemDevice {
         ensures entries { self.new.entries.items ≡ self.old.entries.items }
         ensures cause { HasDeviceCause (mem_state self.old) (mem_state self.new) result }
         ensures failed { IfErr result (λ e. e ≡ DevError.Failed) }
+        ensures listed { FailsIfListed self.old result }
+        ensures counts { CountsCall self.old self.new }
     {
-        self.calls = self.calls.saturating_add(1);
-        if self.fail.contains(&self.calls) {
-            self.faults = self.faults.saturating_add(1);
+        if self.failing.fails() {
+            self.failing.fault();
             return Err(DevError::Failed);
         }
         Ok(())
@@ -200,7 +199,7 @@ impl MemDevice {
         ensures torn { Torn at (length bytes.now) ((mem_state self.old).file (name_at self.old.entries.items i)) ((mem_state self.new).file (name_at self.old.entries.items i)) }
         ensures refused { OnErr result (ReadsAlike (mem_state self.old) (mem_state self.new)) }
         ensures only { ChangesOnly (name_at self.old.entries.items i) (mem_state self.old) (mem_state self.new) }
-        ensures faults { self.new.faults ≡ self.old.faults }
+        ensures failing { self.new.failing ≡ self.old.failing }
         ensures no_fault { IfErr result (λ e. e ≢ DevError.Failed) }
     {
         let used = self.used_now();
@@ -224,7 +223,7 @@ impl MemDevice {
         ensures torn { Torn at (length bytes.now) ((mem_state self.old).file name.now) ((mem_state self.new).file name.now) }
         ensures refused { OnErr result (ReadsAlike (mem_state self.old) (mem_state self.new)) }
         ensures only { ChangesOnly name.now (mem_state self.old) (mem_state self.new) }
-        ensures faults { self.new.faults ≡ self.old.faults }
+        ensures failing { self.new.failing ≡ self.old.failing }
         ensures no_fault { IfErr result (λ e. e ≢ DevError.Failed) }
     {
         let used = self.used_now();
@@ -244,7 +243,7 @@ impl MemDevice {
         ensures removed { OnOk result (IsRemoved ((mem_state self.old).file (name_at self.old.entries.items i)) ((mem_state self.new).file (name_at self.old.entries.items i))) }
         ensures refused { OnErr result (mem_state self.new ≡ mem_state self.old) }
         ensures only { ChangesOnly (name_at self.old.entries.items i) (mem_state self.old) (mem_state self.new) }
-        ensures faults { self.new.faults ≡ self.old.faults }
+        ensures failing { self.new.failing ≡ self.old.failing }
         ensures no_fault { IfErr result (λ e. e ≢ DevError.Failed) }
     {
         if !self.entries[i].there {
@@ -260,7 +259,7 @@ impl MemDevice {
         requires { pick ≤ 3 }
         ensures len { length self.new.entries.items ≡ length self.old.entries.items }
         ensures each { (k : ℕ) (d : Entry) → k < length self.old.entries.items → IsStopOf (outcome_for pick (turn_behind true (take k self.old.entries.items))) (get_or self.old.entries.items k d) (get_or self.new.entries.items k d) }
-        ensures faults { self.new.faults ≡ self.old.faults }
+        ensures failing { self.new.failing ≡ self.old.failing }
         ensures capacity { self.new.capacity ≡ self.old.capacity }
     {
         stop_entries(&mut self.entries, self.alloc, pick);
@@ -272,7 +271,7 @@ impl MemDevice {
         ensures alike { ReadsAlike (mem_state self.old) (mem_state self.new) }
         ensures at_rest { (q : List ℕ) → IsAtRest ((mem_state self.new).file q) }
         ensures partly { (q : List ℕ) → IsPartlySynced ((mem_state self.old).file q) ((mem_state self.new).file q) }
-        ensures faults { self.new.faults ≡ self.old.faults }
+        ensures failing { self.new.failing ≡ self.old.failing }
     {
         self.leave(0);
     }
@@ -296,17 +295,27 @@ impl MemDevice {
 }
 
 impl Device for MemDevice {
-    ghost use Rattle.node_device.specs.MemState.{mem_state};
+    ghost use Rattle.node_device.specs.MemState.{mem_state, FailsIfListed, CountsCall, CountsNone};
     ghost use Rattle.node_device.specs.MemSound.{mem_sound};
     ghost use Rattle.node_device.specs.Picks.{IsPicked};
-    ghost use Rattle.node_device.specs.File.{MayLeave, IsAtRest, IsEmpty};
-    ghost use Rattle.node_device.specs.DeviceState.{TellsOn};
+    ghost use Rattle.node_device.specs.File.{IsAtRest, Torn, IsRemoved, IsPartlySynced, IsEmpty, MayLeave, written, grown, bytes_of};
+    ghost use Rattle.node_device.specs.DeviceState.{IsDeviceName, IsUnchanged, ChangesOnly, ReadsAlike, TellsOn, used_of};
+    ghost use Rattle.node_device.specs.Answers.{HasDeviceCause, SizeAnswers, ReadAnswers, WriteAnswers, SyncAnswers, RemoveAnswers, NamesAnswers};
 
     ghost state = { mem_state };
 
+    ghost leaves = { IsPicked };
+
     ghost sound = { mem_sound };
 
-    fn size(&mut self, name: &[u8]) -> Result<u64, DevError> {
+    fn size(&mut self, name: &[u8]) -> Result<u64, DevError>
+        requires { IsDeviceName name.now }
+        ensures answer { SizeAnswers ((mem_state self.old).file name.now) result }
+        ensures same { IsUnchanged (mem_state self.old) (mem_state self.new) }
+        ensures cause { HasDeviceCause (mem_state self.old) (mem_state self.new) result }
+        ensures listed { FailsIfListed self.old result }
+        ensures counts { CountsCall self.old self.new }
+    {
         self.count_call()?;
         match self.find(name) {
             Some(entry) => entry.size(),
@@ -314,7 +323,15 @@ impl Device for MemDevice {
         }
     }
 
-    fn read(&mut self, name: &[u8], at: u64, into: &mut [u8]) -> Result<(), DevError> {
+    fn read(&mut self, name: &[u8], at: u64, into: &mut [u8]) -> Result<(), DevError>
+        requires { IsDeviceName name.now }
+        ensures answer { ReadAnswers ((mem_state self.old).file name.now) at (length into.old) result }
+        ensures bytes { (mem_state self.old).tells ≡ true → OnOk result (into.new ≡ take (length into.old) (drop at (bytes_of ((mem_state self.old).file name.now).now))) }
+        ensures same { IsUnchanged (mem_state self.old) (mem_state self.new) }
+        ensures cause { HasDeviceCause (mem_state self.old) (mem_state self.new) result }
+        ensures listed { FailsIfListed self.old result }
+        ensures counts { CountsCall self.old self.new }
+    {
         self.count_call()?;
         match self.find(name) {
             Some(entry) => entry.read(at, into),
@@ -322,7 +339,18 @@ impl Device for MemDevice {
         }
     }
 
-    fn write(&mut self, name: &[u8], at: u64, bytes: &[u8]) -> Result<(), DevError> {
+    fn write(&mut self, name: &[u8], at: u64, bytes: &[u8]) -> Result<(), DevError>
+        requires { IsDeviceName name.now }
+        ensures answer { WriteAnswers ((mem_state self.old).file name.now) (used_of (mem_state self.old)) (mem_state self.old).capacity at (length bytes.now) result }
+        ensures len { OnOk result (((mem_state self.new).file name.now).len ≡ Some (grown ((mem_state self.old).file name.now).len at (length bytes.now))) }
+        ensures now { (mem_state self.old).tells ≡ true → OnOk result (((mem_state self.new).file name.now).now ≡ Some (written (bytes_of ((mem_state self.old).file name.now).now) at bytes.now)) }
+        ensures torn { Torn at (length bytes.now) ((mem_state self.old).file name.now) ((mem_state self.new).file name.now) }
+        ensures refused { OnErr result (ReadsAlike (mem_state self.old) (mem_state self.new)) }
+        ensures only { ChangesOnly name.now (mem_state self.old) (mem_state self.new) }
+        ensures cause { HasDeviceCause (mem_state self.old) (mem_state self.new) result }
+        ensures listed { FailsIfListed self.old result }
+        ensures counts { CountsCall self.old self.new }
+    {
         self.count_call()?;
         if at > MAX_END || bytes.len() as u64 > MAX_END - at {
             return Err(DevError::Range);
@@ -333,13 +361,30 @@ impl Device for MemDevice {
         }
     }
 
-    fn sync(&mut self) -> Result<(), DevError> {
+    fn sync(&mut self) -> Result<(), DevError>
+        ensures answer { SyncAnswers result }
+        ensures alike { ReadsAlike (mem_state self.old) (mem_state self.new) }
+        ensures at_rest { OnOk result ((q : List ℕ) → IsAtRest ((mem_state self.new).file q)) }
+        ensures partly { (q : List ℕ) → IsPartlySynced ((mem_state self.old).file q) ((mem_state self.new).file q) }
+        ensures cause { HasDeviceCause (mem_state self.old) (mem_state self.new) result }
+        ensures listed { FailsIfListed self.old result }
+        ensures counts { CountsCall self.old self.new }
+    {
         self.count_call()?;
         self.settle();
         Ok(())
     }
 
-    fn remove(&mut self, name: &[u8]) -> Result<(), DevError> {
+    fn remove(&mut self, name: &[u8]) -> Result<(), DevError>
+        requires { IsDeviceName name.now }
+        ensures answer { RemoveAnswers ((mem_state self.old).file name.now) result }
+        ensures removed { OnOk result (IsRemoved ((mem_state self.old).file name.now) ((mem_state self.new).file name.now)) }
+        ensures refused { OnErr result (IsUnchanged (mem_state self.old) (mem_state self.new)) }
+        ensures only { ChangesOnly name.now (mem_state self.old) (mem_state self.new) }
+        ensures cause { HasDeviceCause (mem_state self.old) (mem_state self.new) result }
+        ensures listed { FailsIfListed self.old result }
+        ensures counts { CountsCall self.old self.new }
+    {
         self.count_call()?;
         match self.find_place(name) {
             Ok(i) => self.remove_entry(i),
@@ -347,7 +392,14 @@ impl Device for MemDevice {
         }
     }
 
-    fn names(&mut self) -> Result<Vec<Bytes>, DevError> {
+    fn names(&mut self) -> Result<Vec<Bytes>, DevError>
+        ensures answer { NamesAnswers result }
+        ensures names { IfOk result (λ names. names.items ≡ (mem_state self.old).names) }
+        ensures same { IsUnchanged (mem_state self.old) (mem_state self.new) }
+        ensures cause { HasDeviceCause (mem_state self.old) (mem_state self.new) result }
+        ensures listed { FailsIfListed self.old result }
+        ensures counts { CountsCall self.old self.new }
+    {
         self.count_call()?;
         Ok(list_names(self.alloc, &self.entries)?)
     }
@@ -361,7 +413,7 @@ impl Device for MemDevice {
     }
 
     fn faults(&self) -> u64 {
-        self.faults
+        self.failing.faults
     }
 
     fn crash(&mut self, pick: u8)
@@ -370,6 +422,7 @@ impl Device for MemDevice {
         ensures outcome { (mem_state self.new).tells ≡ true → (q : List ℕ) → MayLeave ((mem_state self.old).file q) ((mem_state self.new).file q).now }
         ensures at_rest { (q : List ℕ) → IsAtRest ((mem_state self.new).file q) }
         ensures picked { IsPicked pick (mem_state self.old) (mem_state self.new) }
+        ensures uncounted { CountsNone self.old self.new }
         ensures goes_on { (mem_state self.new).tells ≡ true }
         ensures no_fault { (mem_state self.new).faults ≡ (mem_state self.old).faults }
     {
@@ -380,6 +433,7 @@ impl Device for MemDevice {
         ensures tells { TellsOn (mem_state self.old) (mem_state self.new) }
         ensures names { (mem_state self.new).names ≡ [] }
         ensures empty { (q : List ℕ) → IsEmpty ((mem_state self.new).file q) }
+        ensures uncounted { CountsNone self.old self.new }
         ensures goes_on { (mem_state self.new).tells ≡ true }
         ensures no_fault { (mem_state self.new).faults ≡ (mem_state self.old).faults }
     {
