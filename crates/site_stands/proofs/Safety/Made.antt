@@ -70,7 +70,7 @@ first_alike s m (event.Scavenging which) is = absurd (cc is)
 alike_then : (m n o : Machine) → IsAlike m n → IsAlike n o → IsAlike m o
 alike_then m n o a b = record { stage = b.stage ∙ a.stage; run = b.run ∙ a.run; halt = b.halt ∙ a.halt; mark = b.mark ∙ a.mark }
 
-all_alike : (s : Setup) (m : Machine) (made : List Event) → IsTrue (list_all is_first_change made) → IsAlike m (fold (after s) m made)
+pub all_alike : (s : Setup) (m : Machine) (made : List Event) → IsTrue (list_all is_first_change made) → IsAlike m (fold (after s) m made)
 all_alike s m [] all = record { stage = refl; run = refl; halt = refl; mark = refl }
 all_alike s m (e ∷ es) all = split (is_first_change e) refl all (λ rest. all_alike s (after s m e) es rest)
   where
