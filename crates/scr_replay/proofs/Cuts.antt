@@ -23,21 +23,21 @@ four_or_more n h = by_test (nat_lt 4 n) refl
         same e = grind (arith, nat_tests)
 
 -- a front of this run's text went out, or nothing of it, behind the texts of the runs before it
-pub run_cuts : {D : Type 0} (state : D → DeviceState) (s : Setup) (items : List Item) (i : ℕ) (x : Item) (old mid new : ℕ → DeviceState) (held told held' : Option (List ℕ)) (clock clock' : Option ℕ) (faults faults' status : ℕ)
+pub run_cuts : (s : Setup) (items : List Item) (i : ℕ) (x : Item) (old mid new : ℕ → DeviceState) (held told held' : Option (List ℕ)) (clock clock' : Option ℕ) (faults faults' status : ℕ)
     → legal_items (take (i + 1) items) ≡ legal_items (take i items) ++ legal_item x ∷ []
-    → IsReplayed state s (legal_items (take i items)) old mid held told clock clock'
-    → RunEnds state s (legal_item x) mid new told held' faults faults' status
-    → 3 < status → CutsShort state s items old held held'
-run_cuts state s items i x old mid new held told held' clock clock' faults faults' status more before ends high =
+    → IsReplayed s (legal_items (take i items)) old mid held told clock clock'
+    → RunEnds s (legal_item x) mid new told held' faults faults' status
+    → 3 < status → CutsShort s items old held held'
+run_cuts s items i x old mid new held told held' clock clock' faults faults' status more before ends high =
     elim (four_or_more status high) [
       | inl four ↦
           record {
             count = i + 1;
             at = new;
             cut =
-                subst (λ (xs : List LegalItem). IsCutShort state s xs old new held held') (sym more)
-                (cut_then state s (legal_items (take i items)) (legal_item x ∷ []) old mid new held told held' clock clock' before (ends.cut four));
+                subst (λ (xs : List LegalItem). IsCutShort s xs old new held held') (sym more)
+                (cut_then s (legal_items (take i items)) (legal_item x ∷ []) old mid new held told held' clock clock' before (ends.cut four));
           }
       | inr above ↦
-          record { count = i; at = mid; cut = cut_there state s (legal_items (take i items)) old mid held told held' clock clock' before (ends.silent above) }
+          record { count = i; at = mid; cut = cut_there s (legal_items (take i items)) old mid held told held' clock clock' before (ends.silent above) }
     ]

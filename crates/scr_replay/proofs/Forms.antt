@@ -3,8 +3,11 @@ use Rattle.std.proofs.Common.{◌≡◌, ℕ, zero, suc, ◌<◌, ◌≤◌, ◌
 use Rattle.std.specs.List.{list_all}
 use Rattle.std.proofs.lemmas.List.{take_more, map-append}
 use Rattle.std.proofs.lemmas.Bool.Decides.{nat_tests}
+use Rattle.scr_base.specs.Sets.{fits_set, fits_sets, group_count, nodes_of_group, numbers_below}
 use Rattle.scr_base.specs.declared.actor.Actor.{Actor}
 use Rattle.scr_base.specs.declared.actor.Actor.TheVariants as actor
+use Rattle.scr_base.specs.declared.shape.Scheme.{Scheme}
+use Rattle.scr_base.specs.declared.shape.Scheme.TheVariants.{Single, Partner, Xor, Rs}
 use Rattle.site_core.specs.Follows.{IsActor}
 use Rattle.admin.specs.declared.command.Command.{Command}
 use Rattle.script_reader.specs.declared.script.Item.{Item}
@@ -87,3 +90,22 @@ more_items items all i x same within read =
     ap legal_items (subst (λ (xs : List Item). take (i + 1) xs ≡ take i xs ++ x ∷ []) same
     (take_more items i x within ∙ ap (λ (z : Item). take i items ++ z ∷ []) (sym read)))
     ∙ map-append legal_item (take i all) (x ∷ [])
+
+-- a scheme without copies fits every site
+pub single_fits : (scheme : Scheme) (size nodes : ℕ) → is_single scheme ≡ true → fits_sets scheme size nodes ≡ true
+single_fits Single size nodes h = each (numbers_below (group_count nodes size))
+  where
+    each : (groups : List ℕ) → list_all (λ group. fits_set Single (length (nodes_of_group nodes size group))) groups ≡ true
+    each [] = refl
+    each (g ∷ gs) = each gs
+single_fits Partner size nodes h = absurd (false_is_not h)
+single_fits Xor size nodes h = absurd (false_is_not h)
+single_fits (Rs shares) size nodes h = absurd (false_is_not h)
+
+-- a script that is built has such a scheme
+pub built_single : (script : Script) → IsBuilt script → is_single script.config.scheme ≡ true
+built_single script built =
+    let job = job_of script in
+    let front = (both (is_single job.scheme && list_all (is_built_item job.site) job.items && has_room job.cache (first_steps job.items)) (is_unflushed job.flush (first_steps job.items)) built).0 in
+    let items = (both (is_single job.scheme && list_all (is_built_item job.site) job.items) (has_room job.cache (first_steps job.items)) front).0 in
+    (both (is_single job.scheme) (list_all (is_built_item job.site) job.items) items).0

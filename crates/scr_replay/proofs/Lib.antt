@@ -9,3 +9,4 @@ mod Replayed
 mod Commanded
 mod Cuts
 mod Goes
+mod CommandFaults

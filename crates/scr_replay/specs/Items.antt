@@ -40,7 +40,7 @@ abbrev pub legal_items : List Item → List LegalItem
 legal_items items = map legal_item items
 
 -- the first of the items were played, and a front of the text of their history went out
-pub record CutsShort {D : Type 0} (state : D → DeviceState) (s : Setup) (items : List Item) (old : ℕ → DeviceState) (held held' : Option (List ℕ)) : Type 0 where
+pub record CutsShort (s : Setup) (items : List Item) (old : ℕ → DeviceState) (held held' : Option (List ℕ)) : Type 0 where
   pub count : ℕ
   pub at : ℕ → DeviceState
-  pub cut : IsCutShort state s (legal_items (take count items)) old at held held'
+  pub cut : IsCutShort s (legal_items (take count items)) old at held held'

@@ -136,18 +136,18 @@ IsUnread left (Err (Refused refusal)) = IfSome left (IsRefusedAs refusal)
 IsUnread left _ = Unit {0}
 
 -- at status 0 the source was read to its end, and its script was replayed
-pub record IsDone {D : Type 0} (state : D → DeviceState) (before after : Outside) (old new : ℕ → DeviceState) (clock clock' : Option ℕ) : Type 0 where
+pub record IsDone (before after : Outside) (old new : ℕ → DeviceState) (clock clock' : Option ℕ) : Type 0 where
   pub script : Script
   pub read : IfSome before.left (Spells script)
   pub built : IsBuilt script
   pub spent : IsSpent after.left
   pub quiet_source : after.source_faults ≡ before.source_faults
   pub quiet_sink : after.sink_faults ≡ before.sink_faults
-  pub replayed : IsReplayed state (setup_of script) (legal_items script.items) old new before.held after.held clock clock'
+  pub replayed : IsReplayed (setup_of script) (legal_items script.items) old new before.held after.held clock clock'
 
 -- the first runs of the source's script were played, and a front of their text went out
-pub record IsCut {D : Type 0} (state : D → DeviceState) (before after : Outside) (old : ℕ → DeviceState) : Type 0 where
+pub record IsCut (before after : Outside) (old : ℕ → DeviceState) : Type 0 where
   pub script : Script
   pub read : IfSome before.left (Spells script)
   pub built : IsBuilt script
-  pub cut : CutsShort state (setup_of script) script.items old before.held after.held
+  pub cut : CutsShort (setup_of script) script.items old before.held after.held

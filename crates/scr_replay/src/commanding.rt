@@ -8,6 +8,7 @@ ghost use Rattle.ckpt_model.specs.declared.event.StopCause.TheVariants as cause;
 ghost use Rattle.script_reader.specs.declared.script.Item.TheVariants as item;
 ghost use Rattle.admin.specs.Commands.{word_of};
 ghost use Rattle.site_core.specs.Readings.{TellsReadings};
+ghost use Rattle.site_core.specs.Faults.{TellsCauses};
 ghost use Rattle.scr_replay.specs.Commands.{told_answer};
 ghost use Rattle.scr_replay.specs.Forms.{is_halt_command};
 ghost use Rattle.scr_replay.specs.Items.{legal_item};
@@ -30,9 +31,9 @@ pub fn play_command<D: Device, K: Sink>(
     sink: &mut K,
 ) -> Result<Bay<D>, Ran<D>>
     requires { is_halt_command command.now ≡ true }
-    ensures replayed { IfOk result (λ after. (s : Setup) (next : Option ℕ) → IsReplayed D.state s (legal_item (item.Admin command.now) ∷ []) (states_of D.state bay) (states_of D.state after) (K.held sink.old) (K.held sink.new) next next) }
+    ensures replayed { IfOk result (λ after. (s : Setup) (next : Option ℕ) → IsReplayed s (legal_item (item.Admin command.now) ∷ []) (states_of D.state bay) (states_of D.state after) (K.held sink.old) (K.held sink.new) next next) }
     ensures quiet { OnOk result (K.fault_count sink.new ≡ K.fault_count sink.old) }
-    ensures ends { IfErr result (λ ran. (s : Setup) → RunEnds D.state s (legal_item (item.Admin command.now)) (states_of D.state bay) (states_of D.state ran.bay) (K.held sink.old) (K.held sink.new) (K.fault_count sink.old) (K.fault_count sink.new) ran.status) }
+    ensures ends { IfErr result (λ ran. (s : Setup) → RunEnds s (legal_item (item.Admin command.now)) (states_of D.state bay) (states_of D.state ran.bay) (K.held sink.old) (K.held sink.new) (K.fault_count sink.old) (K.fault_count sink.new) ran.status) }
 {
     let Closed { history, bay } = match carry_out(alloc, bay, command) {
         Ok(closed) => closed,
@@ -69,8 +70,9 @@ fn told_answer(answer: Answer) -> CommandAnswer
 /// Carries a command out; where a device refuses it, all devices are stopped: what is to be told, and the bay.
 fn carry_out<D: Device>(alloc: Global, bay: Bay<D>, command: &Command) -> Result<Closed<D>, Ran<D>>
     requires { is_halt_command command.now ≡ true }
-    ensures played { IfOk result (λ closed. (s : Setup) → IsPlayed D.state s (legal_item (item.Admin command.now) ∷ []) (states_of D.state bay) (states_of D.state closed.bay) closed.history.events) }
+    ensures played { IfOk result (λ closed. (s : Setup) → IsPlayed s (legal_item (item.Admin command.now) ∷ []) (states_of D.state bay) (states_of D.state closed.bay) closed.history.events) }
     ensures timed { IfOk result (λ closed. (next : Option ℕ) → TellsReadings next next closed.history.events) }
+    ensures causes { IfOk result (λ closed. TellsCauses (states_of D.state bay) (states_of D.state closed.bay) closed.history.events) }
     ensures ends { IfErr result (λ ran. ran.status ≡ 5) }
 {
     let mut bay = bay;

@@ -18,13 +18,17 @@ mod words;
 use devices::memory_bay;
 use replay::replay;
 use scr_base::{StdSink, StdSource, TickClock};
-use std::io;
+use std::io::{self, ErrorKind};
 use std::process::ExitCode;
 use words::words_of;
 
 fn main(rt: HostRuntime) -> io::Result<ExitCode> {
     let alloc = rt.alloc();
-    let words = words_of(&rt)?;
+    let words = match words_of(&rt) {
+        Ok(words) => words,
+        Err(error) if error.kind() == ErrorKind::OutOfMemory => return Ok(ExitCode::from(5)),
+        Err(error) => return Err(error),
+    };
     let Ok(bay) = memory_bay(alloc) else {
         return Ok(ExitCode::from(5));
     };

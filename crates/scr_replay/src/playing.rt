@@ -5,11 +5,15 @@ ghost use Rattle.node_device.specs.Rack.{states_of};
 ghost use Rattle.ckpt_model.specs.Machine.{Machine};
 ghost use Rattle.script_reader.specs.Values.{size_of};
 ghost use Rattle.script_reader.specs.declared.script.Item.TheVariants as item;
-ghost use Rattle.site_core.specs.Follows.{Keeps, HasStopped, IsActor, IsSameRun, Stands, Follows};
+ghost use Rattle.site_stands.specs.Site.{Stands};
+ghost use Rattle.site_core.specs.Calls.{Tells};
+ghost use Rattle.site_core.specs.Holds.{CanBegin};
+ghost use Rattle.site_core.specs.Follows.{KeepsRun, IsRunFrom, HasStopped, IsActor, IsSameRun};
 ghost use Rattle.site_core.specs.Shown.{setup_of as setup_of_core};
 ghost use Rattle.site_core.specs.Readings.{TellsReadings, TellsTimes};
+ghost use Rattle.site_core.specs.Faults.{TellsCauses, IsAccounted, KeepsAccount};
 ghost use Rattle.std.specs.List.{list_all};
-ghost use Rattle.scr_replay.specs.Forms.{has_turn, is_built_run, is_built_item};
+ghost use Rattle.scr_replay.specs.Forms.{has_turn, is_built_run, is_built_item, is_single};
 ghost use Rattle.scr_replay.specs.Goes.{GoesDown};
 ghost use Rattle.scr_replay.specs.Items.{setup_of, legal_item, legal_items, CutsShort};
 ghost use Rattle.scr_replay.specs.Runs.{RunEnds, IsReplayed, IsPlayed};
@@ -32,8 +36,8 @@ pub fn play_all<D: Device, K: Sink, C: Clock>(
     clock: &mut C,
 ) -> Ran<D>
     requires { IsBuilt script.now }
-    ensures done { result.status ≡ 0 → IsReplayed D.state (setup_of script.now) (legal_items script.now.items) (states_of D.state bay) (states_of D.state result.bay) (K.held sink.old) (K.held sink.new) (C.reading clock.old) (C.reading clock.new) }
-    ensures cut { 3 < result.status → CutsShort D.state (setup_of script.now) script.now.items (states_of D.state bay) (K.held sink.old) (K.held sink.new) }
+    ensures done { result.status ≡ 0 → IsReplayed (setup_of script.now) (legal_items script.now.items) (states_of D.state bay) (states_of D.state result.bay) (K.held sink.old) (K.held sink.new) (C.reading clock.old) (C.reading clock.new) }
+    ensures cut { 3 < result.status → CutsShort (setup_of script.now) script.now.items (states_of D.state bay) (K.held sink.old) (K.held sink.new) }
     ensures quiet { result.status ≡ 0 → K.fault_count sink.new ≡ K.fault_count sink.old }
     ensures known { (result.status ≡ 0) ⊎ ((3 < result.status) × (result.status ≤ 5)) }
     ensures sink_fault { result.status ≡ 4 → Rose (K.fault_count sink.old) (K.fault_count sink.new) }
@@ -58,10 +62,11 @@ fn play_item<D: Device, K: Sink, C: Clock>(
     sink: &mut K,
     clock: &mut C,
 ) -> Result<Bay<D>, Ran<D>>
-    requires { is_built_item (size_of shape) item.now ≡ true }
-    ensures replayed { IfOk result (λ after. IsReplayed D.state (record { shape = shape; config = config }) (legal_item item.now ∷ []) (states_of D.state bay) (states_of D.state after) (K.held sink.old) (K.held sink.new) (C.reading clock.old) (C.reading clock.new)) }
+    requires item { is_built_item (size_of shape) item.now ≡ true }
+    requires single { is_single config.scheme ≡ true }
+    ensures replayed { IfOk result (λ after. IsReplayed (record { shape = shape; config = config }) (legal_item item.now ∷ []) (states_of D.state bay) (states_of D.state after) (K.held sink.old) (K.held sink.new) (C.reading clock.old) (C.reading clock.new)) }
     ensures quiet { OnOk result (K.fault_count sink.new ≡ K.fault_count sink.old) }
-    ensures ends { IfErr result (λ ran. RunEnds D.state (record { shape = shape; config = config }) (legal_item item.now) (states_of D.state bay) (states_of D.state ran.bay) (K.held sink.old) (K.held sink.new) (K.fault_count sink.old) (K.fault_count sink.new) ran.status) }
+    ensures ends { IfErr result (λ ran. RunEnds (record { shape = shape; config = config }) (legal_item item.now) (states_of D.state bay) (states_of D.state ran.bay) (K.held sink.old) (K.held sink.new) (K.fault_count sink.old) (K.fault_count sink.new) ran.status) }
 {
     match item {
         Item::Run { run } => play(alloc, bay, shape, config, run, sink, clock),
@@ -80,10 +85,11 @@ fn play<D: Device, K: Sink, C: Clock>(
     sink: &mut K,
     clock: &mut C,
 ) -> Result<Bay<D>, Ran<D>>
-    requires { is_built_run (size_of shape) run.now ≡ true }
-    ensures replayed { IfOk result (λ after. IsReplayed D.state (record { shape = shape; config = config }) (legal_item (item.Run run.now) ∷ []) (states_of D.state bay) (states_of D.state after) (K.held sink.old) (K.held sink.new) (C.reading clock.old) (C.reading clock.new)) }
+    requires run { is_built_run (size_of shape) run.now ≡ true }
+    requires single { is_single config.scheme ≡ true }
+    ensures replayed { IfOk result (λ after. IsReplayed (record { shape = shape; config = config }) (legal_item (item.Run run.now) ∷ []) (states_of D.state bay) (states_of D.state after) (K.held sink.old) (K.held sink.new) (C.reading clock.old) (C.reading clock.new)) }
     ensures quiet { OnOk result (K.fault_count sink.new ≡ K.fault_count sink.old) }
-    ensures ends { IfErr result (λ ran. RunEnds D.state (record { shape = shape; config = config }) (legal_item (item.Run run.now)) (states_of D.state bay) (states_of D.state ran.bay) (K.held sink.old) (K.held sink.new) (K.fault_count sink.old) (K.fault_count sink.new) ran.status) }
+    ensures ends { IfErr result (λ ran. RunEnds (record { shape = shape; config = config }) (legal_item (item.Run run.now)) (states_of D.state bay) (states_of D.state ran.bay) (K.held sink.old) (K.held sink.new) (K.fault_count sink.old) (K.fault_count sink.new) ran.status) }
 {
     let Closed { history, bay } = match run_through(alloc, bay, shape, config, run, clock) {
         Ok(closed) => closed,
@@ -105,9 +111,11 @@ fn run_through<D: Device, C: Clock>(
     run: &RunItem,
     clock: &mut C,
 ) -> Result<Closed<D>, Ran<D>>
-    requires { is_built_run (size_of shape) run.now ≡ true }
-    ensures played { IfOk result (λ closed. IsPlayed D.state (record { shape = shape; config = config }) (legal_item (item.Run run.now) ∷ []) (states_of D.state bay) (states_of D.state closed.bay) closed.history.events) }
+    requires run { is_built_run (size_of shape) run.now ≡ true }
+    requires single { is_single config.scheme ≡ true }
+    ensures played { IfOk result (λ closed. IsPlayed (record { shape = shape; config = config }) (legal_item (item.Run run.now) ∷ []) (states_of D.state bay) (states_of D.state closed.bay) closed.history.events) }
     ensures timed { IfOk result (λ closed. TellsReadings (C.reading clock.old) (C.reading clock.new) closed.history.events) }
+    ensures causes { IfOk result (λ closed. TellsCauses (states_of D.state bay) (states_of D.state closed.bay) closed.history.events) }
     ensures ends { IfErr result (λ ran. ran.status ≡ 5) }
 {
     let mut site = match begin_run(alloc, bay, shape, config, run) {
@@ -158,7 +166,8 @@ fn begin_run<D: Device>(
     config: Config,
     run: &RunItem,
 ) -> Result<Site<D>, Unbegun<D>>
-    requires { is_built_run (size_of shape) run.now ≡ true }
+    requires run { is_built_run (size_of shape) run.now ≡ true }
+    requires single { is_single config.scheme ≡ true }
     ensures bay { IfOk result (λ site. site.bay ≡ bay) }
     ensures refused { IfErr result (λ left. left.bay ≡ bay) }
     ensures setup { IfOk result (λ site. setup_of_core site.core ≡ record { shape = shape; config = config }) }
@@ -166,7 +175,8 @@ fn begin_run<D: Device>(
     ensures programs { IfOk result (λ site. site.programs ≡ run.now.programs) }
     ensures ranks { IfOk result (λ site. length site.core.ranks ≡ shape.nodes * shape.ranks) }
     ensures empty { IfOk result (λ site. site.history.events ≡ []) }
-    ensures follows { IfOk result (λ site. (first : Machine) → Stands (record { shape = shape; config = config }) (states_of D.state bay) first → Follows D.state first site) }
+    ensures accounts { IfOk result (λ site. IsAccounted D.state (states_of D.state bay) site) }
+    ensures follows { IfOk result (λ site. (first : Machine) → Tells (states_of D.state bay) → Stands (record { shape = shape; config = config }) (states_of D.state bay) first → CanBegin (record { shape = shape; config = config }) (states_of D.state bay) first → IsRunFrom D.state first site) }
 {
     let Ok(places) = Vec::from_slice(alloc, run.places.list()) else {
         return Err(Unbegun { bay });
@@ -186,9 +196,10 @@ fn run_out<D: Device, C: Clock>(
 ) -> Result<(), SiteError>
     requires ranks { ranks ≤ length site.old.core.ranks }
     requires actors { list_all (has_turn ranks) turns.now ≡ true }
-    ensures kept { OnOk result (Keeps D.state site.old site.new) }
-    ensures same { IsSameRun site.old site.new }
+    ensures kept { OnOk result (KeepsRun D.state site.old site.new) }
+    ensures same { IsSameRun D.state site.old site.new }
     ensures timed { OnOk result (TellsTimes (C.reading clock.old) (C.reading clock.new) site.old.history.events site.new.history.events) }
+    ensures accounts { OnOk result (KeepsAccount D.state site.old site.new) }
     ensures stopped { OnOk result (HasStopped site.new) }
 {
     take_lines(site, clock, ranks, turns)?;
@@ -204,9 +215,10 @@ fn take_lines<D: Device, C: Clock>(
 ) -> Result<(), SiteError>
     requires ranks { ranks ≤ length site.old.core.ranks }
     requires actors { list_all (has_turn ranks) turns.now ≡ true }
-    ensures kept { OnOk result (Keeps D.state site.old site.new) }
-    ensures same { IsSameRun site.old site.new }
+    ensures kept { OnOk result (KeepsRun D.state site.old site.new) }
+    ensures same { IsSameRun D.state site.old site.new }
     ensures timed { OnOk result (TellsTimes (C.reading clock.old) (C.reading clock.new) site.old.history.events site.new.history.events) }
+    ensures accounts { OnOk result (KeepsAccount D.state site.old site.new) }
 {
     for turn in turns {
         take_turns(site, clock, ranks, *turn)?;
@@ -223,9 +235,10 @@ fn take_turns<D: Device, C: Clock>(
 ) -> Result<(), SiteError>
     requires ranks { ranks ≤ length site.old.core.ranks }
     requires actor { has_turn ranks turn ≡ true }
-    ensures kept { OnOk result (Keeps D.state site.old site.new) }
-    ensures same { IsSameRun site.old site.new }
+    ensures kept { OnOk result (KeepsRun D.state site.old site.new) }
+    ensures same { IsSameRun D.state site.old site.new }
     ensures timed { OnOk result (TellsTimes (C.reading clock.old) (C.reading clock.new) site.old.history.events site.new.history.events) }
+    ensures accounts { OnOk result (KeepsAccount D.state site.old site.new) }
 {
     for _turn in 0..turn.times {
         take_turn(site, clock, turn.actor)?;
@@ -236,9 +249,10 @@ fn take_turns<D: Device, C: Clock>(
 /// Lets the actors go round until the run has stopped, or nobody moves in a round.
 fn go_on<D: Device, C: Clock>(site: &mut Site<D>, clock: &mut C, ranks: u8) -> Result<(), SiteError>
     requires { ranks ≤ length site.old.core.ranks }
-    ensures kept { OnOk result (Keeps D.state site.old site.new) }
-    ensures same { IsSameRun site.old site.new }
+    ensures kept { OnOk result (KeepsRun D.state site.old site.new) }
+    ensures same { IsSameRun D.state site.old site.new }
     ensures timed { OnOk result (TellsTimes (C.reading clock.old) (C.reading clock.new) site.old.history.events site.new.history.events) }
+    ensures accounts { OnOk result (KeepsAccount D.state site.old site.new) }
     ensures stopped { OnOk result (HasStopped site.new) }
 {
     let mut goes = true;
@@ -260,10 +274,11 @@ fn go_round<D: Device, C: Clock>(
     ranks: u8,
 ) -> Result<(), SiteError>
     requires { ranks ≤ length site.old.core.ranks }
-    ensures kept { OnOk result (Keeps D.state site.old site.new) }
-    ensures same { IsSameRun site.old site.new }
+    ensures kept { OnOk result (KeepsRun D.state site.old site.new) }
+    ensures same { IsSameRun D.state site.old site.new }
     ensures goes { OnOk result (GoesDown site.old site.new) }
     ensures timed { OnOk result (TellsTimes (C.reading clock.old) (C.reading clock.new) site.old.history.events site.new.history.events) }
+    ensures accounts { OnOk result (KeepsAccount D.state site.old site.new) }
 {
     take_plain_turn(site, Actor::Recoverer)?;
     take_rank_turns(site, clock, ranks)?;
@@ -279,10 +294,11 @@ fn take_rank_turns<D: Device, C: Clock>(
     ranks: u8,
 ) -> Result<(), SiteError>
     requires { ranks ≤ length site.old.core.ranks }
-    ensures kept { OnOk result (Keeps D.state site.old site.new) }
-    ensures same { IsSameRun site.old site.new }
+    ensures kept { OnOk result (KeepsRun D.state site.old site.new) }
+    ensures same { IsSameRun D.state site.old site.new }
     ensures goes { OnOk result (GoesDown site.old site.new) }
     ensures timed { OnOk result (TellsTimes (C.reading clock.old) (C.reading clock.new) site.old.history.events site.new.history.events) }
+    ensures accounts { OnOk result (KeepsAccount D.state site.old site.new) }
 {
     for rank in 0..ranks {
         take_rank_turn(site, clock, rank)?;
@@ -297,9 +313,10 @@ fn take_turn<D: Device, C: Clock>(
     actor: Actor,
 ) -> Result<(), SiteError>
     requires { IsActor (length site.old.core.ranks) actor }
-    ensures kept { OnOk result (Keeps D.state site.old site.new) }
-    ensures same { IsSameRun site.old site.new }
+    ensures kept { OnOk result (KeepsRun D.state site.old site.new) }
+    ensures same { IsSameRun D.state site.old site.new }
     ensures timed { OnOk result (TellsTimes (C.reading clock.old) (C.reading clock.new) site.old.history.events site.new.history.events) }
+    ensures accounts { OnOk result (KeepsAccount D.state site.old site.new) }
 {
     match actor {
         Actor::Rank { rank } => take_rank_turn(site, clock, rank),
@@ -314,10 +331,11 @@ fn take_rank_turn<D: Device, C: Clock>(
     rank: u8,
 ) -> Result<(), SiteError>
     requires { rank < length site.old.core.ranks }
-    ensures kept { OnOk result (Keeps D.state site.old site.new) }
-    ensures same { IsSameRun site.old site.new }
+    ensures kept { OnOk result (KeepsRun D.state site.old site.new) }
+    ensures same { IsSameRun D.state site.old site.new }
     ensures goes { OnOk result (GoesDown site.old site.new) }
     ensures timed { OnOk result (TellsTimes (C.reading clock.old) (C.reading clock.new) site.old.history.events site.new.history.events) }
+    ensures accounts { OnOk result (KeepsAccount D.state site.old site.new) }
 {
     tell_time(site, clock)?;
     take_plain_turn(site, Actor::Rank { rank })
@@ -325,10 +343,11 @@ fn take_rank_turn<D: Device, C: Clock>(
 
 /// Reads the clock, where the round needs the time, and tells it.
 fn tell_time<D: Device, C: Clock>(site: &mut Site<D>, clock: &mut C) -> Result<(), SiteError>
-    ensures kept { OnOk result (Keeps D.state site.old site.new) }
-    ensures same { IsSameRun site.old site.new }
+    ensures kept { OnOk result (KeepsRun D.state site.old site.new) }
+    ensures same { IsSameRun D.state site.old site.new }
     ensures goes { OnOk result (GoesDown site.old site.new) }
     ensures timed { OnOk result (TellsTimes (C.reading clock.old) (C.reading clock.new) site.old.history.events site.new.history.events) }
+    ensures accounts { OnOk result (KeepsAccount D.state site.old site.new) }
 {
     if !site.wants_time() {
         return Ok(());
@@ -340,10 +359,11 @@ fn tell_time<D: Device, C: Clock>(site: &mut Site<D>, clock: &mut C) -> Result<(
 /// Lets an actor take a turn without a look at the clock.
 fn take_plain_turn<D: Device>(site: &mut Site<D>, actor: Actor) -> Result<(), SiteError>
     requires { IsActor (length site.old.core.ranks) actor }
-    ensures kept { OnOk result (Keeps D.state site.old site.new) }
-    ensures same { IsSameRun site.old site.new }
+    ensures kept { OnOk result (KeepsRun D.state site.old site.new) }
+    ensures same { IsSameRun D.state site.old site.new }
     ensures goes { OnOk result (GoesDown site.old site.new) }
     ensures timed { OnOk result ((next : Option ℕ) → TellsTimes next next site.old.history.events site.new.history.events) }
+    ensures accounts { OnOk result (KeepsAccount D.state site.old site.new) }
 {
     match site.turn(actor) {
         Ok(_) => Ok(()),

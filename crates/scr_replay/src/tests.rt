@@ -542,6 +542,34 @@ fn tells_each_fault_of_each_device(rt: HostRuntime) -> Result<(), Fail> {
     Ok(())
 }
 
+// The first script where node 0 fails in its eighth call, its write of the gate `sealed`: nothing is sealed, so nothing is found.
+const SEALED_WRITE_FAILS: &str =
+    "run 1 at 0\nfound |\ncall 0 1 start a ckpt\ndecided start ok 1.1\nreply 0 1 ok 1.1\nlocal 0 2 route f = ok d.1.1.0.f.0.0\nlocal 0 3 write f 0 text abc = ok\ncall 0 4 complete valid\nstop device 0 1\nrun 2 at 0\nfound |\ncall 0 1 have\ndecided have none\nreply 0 1 none\ncall 0 2 restart\ndecided restart phase idle\nreply 0 2 phase idle\nlocal 0 3 read f 0 3 = phase idle\ncall 0 4 restarted valid\ndecided restarted phase idle\nreply 0 4 phase idle\ncall 0 5 end\nstop ended\n";
+
+// The same where the sync behind that write fails: the gate is written, and the dataset is found and offered.
+const SEALED_SYNC_FAILS: &str =
+    "run 1 at 0\nfound |\ncall 0 1 start a ckpt\ndecided start ok 1.1\nreply 0 1 ok 1.1\nlocal 0 2 route f = ok d.1.1.0.f.0.0\nlocal 0 3 write f 0 text abc = ok\ncall 0 4 complete valid\nsealing 1.1\nstop device 0 1\nrun 2 at 0\nfound 1.1:- |\nmended 1.1\ncall 0 1 have\ndecided have 1.1 a\nreply 0 1 1.1 a\ncall 0 2 restart\ndecided restart ok\nreply 0 2 ok\nlocal 0 3 read f 0 3 = bytes 616263\ncall 0 4 restarted valid\ndecided restarted ok\nreply 0 4 ok\ncall 0 5 end\nstop ended\n";
+
+// Of node 0's calls, two take the file and its bytes, and three pairs of a write and a sync the record, the gate `whole`
+// and the gate `sealed`; the first is the look of the run's beginning.
+#[test]
+fn finds_nothing_where_the_sealed_gate_is_not_written(rt: HostRuntime) -> Result<(), Fail> {
+    let alloc = rt.alloc();
+    let words = vec![in alloc; String::from_str(alloc, "run")?]?;
+    for (call, text) in [(8, SEALED_WRITE_FAILS), (9, SEALED_SYNC_FAILS)] {
+        let mut source = source(alloc, SCRIPT, &[])?;
+        let mut sink = MemSink::new(alloc, Vec::new(alloc));
+        let mut clock = TickClock::new();
+        let Ok(bay) = failing_bay(alloc, 0, call) else {
+            return Ok(assert!(rt; false, "no bay"));
+        };
+        let ran = replay(alloc, &words, &mut source, &mut sink, bay, &mut clock);
+        assert_eq!(rt; ran.status, 0, "at call {call}");
+        assert_eq!(rt; sink.bytes(), text.as_bytes(), "at call {call}");
+    }
+    Ok(())
+}
+
 // Whatever call of the prefix fails in commands between runs: one alone is refused, which ends with a stop, or a run ends.
 #[test]
 fn stops_behind_a_refused_command(rt: HostRuntime) -> Result<(), Fail> {

@@ -31,7 +31,7 @@ pub none_at : (s : Stage) (c : Core) → carried_at s c.refusal ≡ None → c.s
 none_at s c none at = ap (λ (x : Stage). carried_at x c.refusal) at ∙ none
 
 -- a run that was cut carries none
-pub carries_none : (old new : Core) → new ≡ (let x : Core = record old { stage = stage.Cut } in x) → CarriesNoMore old new
+pub carries_none : (old new : Core) → new ≡ (let x : Core = record old { stage = stage.Over } in x) → CarriesNoMore old new
 carries_none old new is r carries = absurd (cc (carries, ap carried is))
 
 -- ## A turn
@@ -90,7 +90,7 @@ module _ {D : Type 0} (state : D → DeviceState) (old new : Site D) (moves : �
 
   counted_up : TellsOrCarries state old new → TellsOrCarries state old (record new { moves = moves })
   counted_up (inl t) = inl (counted t)
-  counted_up (inr t) = inr (record { refusal = t.refusal; none = t.none; now = t.now; of_device = t.of_device; cause = t.cause })
+  counted_up (inr t) = inr (record { refusal = t.refusal; none = t.none; now = t.now; of_device = t.of_device; untold = t.untold; cause = t.cause })
 
   -- the count of moves says nothing of faults
   pub accounted : (who : Actor) → AccountsBy who state old new → AccountsBy who state old (record new { moves = moves })

@@ -89,21 +89,20 @@ some_left c (stage.Saving work.SealedSync node) e = omega arith
 some_left c (stage.Dropping drop.File node) e = omega arith
 some_left c (stage.Dropping drop.Sync node) e = omega arith
 some_left c stage.Dropped e = omega arith
-some_left c stage.Stopped e = absurd (cc e)
-some_left c stage.Cut e = absurd (cc e)
+some_left c stage.Over e = absurd (cc e)
 
 -- the run ends
-pub cut_lower : (c d : Core) (programs : List (List Step)) → is_over c.stage ≡ false → d.stage ≡ stage.Cut → d.shape ≡ c.shape → d.ranks ≡ c.ranks → ahead d programs < ahead c programs
-cut_lower c d programs on to shape ranks = at_stages c d programs c.stage stage.Cut refl to shape ranks (some_left c c.stage on)
+pub cut_lower : (c d : Core) (programs : List (List Step)) → is_over c.stage ≡ false → d.stage ≡ stage.Over → d.shape ≡ c.shape → d.ranks ≡ c.ranks → ahead d programs < ahead c programs
+cut_lower c d programs on to shape ranks = at_stages c d programs c.stage stage.Over refl to shape ranks (some_left c c.stage on)
 
 pub ends_lower : {D : Type 0} (old new : Site D) (mid : Core) (r : Result Turn SiteError) → is_over old.core.stage ≡ false → mid.shape ≡ old.core.shape → mid.ranks ≡ old.core.ranks → new.programs ≡ old.programs
-    → IfOk r (λ (t : Turn). t ≡ turn.Moved) → OnOk r (new.core ≡ record mid { stage = stage.Cut }) → IfOk r (λ (t : Turn). Lowers t old new)
+    → IfOk r (λ (t : Turn). t ≡ turn.Moved) → OnOk r (new.core ≡ record mid { stage = stage.Over }) → IfOk r (λ (t : Turn). Lowers t old new)
 ends_lower old new mid r on shape ranks programs moved core = moved_lowers old new r moved (on_ok r (λ is.
     subst (λ (ps : List (List Step)). ahead new.core ps < ahead old.core old.programs) (sym programs)
     (cut_lower old.core new.core old.programs on (ap (λ (x : Core). x.stage) is) (ap (λ (x : Core). x.shape) is ∙ shape) (ap (λ (x : Core). x.ranks) is ∙ ranks))) core)
 
-pub stop_lower : (c : Core) (programs : List (List Step)) → is_over c.stage ≡ false → ahead (record c { stage = stage.Stopped }) programs < ahead c programs
-stop_lower c programs on = at_stages c (record c { stage = stage.Stopped }) programs c.stage stage.Stopped refl refl refl refl (some_left c c.stage on)
+pub stop_lower : (c : Core) (programs : List (List Step)) → is_over c.stage ≡ false → ahead (record c { stage = stage.Over }) programs < ahead c programs
+stop_lower c programs on = at_stages c (record c { stage = stage.Over }) programs c.stage stage.Over refl refl refl refl (some_left c c.stage on)
 
 -- ## The recoverer
 

@@ -12,7 +12,7 @@ use Rattle.site_core.specs.Follows.{carried, carried_at, CarriesNoMore, BecomesO
 use Rattle.site_core.specs.Waiting.{is_over}
 
 -- a run that is over carries none
-over_none : (s : Stage) (refusal : Option Refusal) → is_over s ≡ true → carried_at s refusal ≡ None
+pub over_none : (s : Stage) (refusal : Option Refusal) → is_over s ≡ true → carried_at s refusal ≡ None
 over_none (stage.Dropping d n) refusal over = absurd (cc over)
 over_none stage.Dropped refusal over = absurd (cc over)
 over_none stage.Begun refusal over = refl
@@ -21,10 +21,9 @@ over_none stage.Looking refusal over = refl
 over_none stage.Mending refusal over = refl
 over_none stage.Serving refusal over = refl
 over_none (stage.Saving w n) refusal over = refl
-over_none stage.Stopped refusal over = refl
-over_none stage.Cut refusal over = refl
+over_none stage.Over refusal over = refl
 
-is_longer : (events : List Event) (e : Event) → events ++ e ∷ [] ≡ events → ⊥
+pub is_longer : (events : List Event) (e : Event) → events ++ e ∷ [] ≡ events → ⊥
 is_longer events e same = omega (arith, length_push events e, ap length same)
 
 pub call_finds_none : (old new : Core) (before : List Event) (rank number : ℕ) (call : Step) → CarriesNoMore old new → ((refusal : Refusal) → carried old ≡ Some refusal → BecomesOf refusal new before (before ++ event.Call rank number call ∷ [])) → carried new ≡ None

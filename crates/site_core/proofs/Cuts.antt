@@ -10,9 +10,9 @@ use Rattle.ckpt_model.specs.declared.event.Event.TheVariants as event
 use Rattle.ckpt_model.specs.declared.event.StopCause.{StopCause}
 use Rattle.ckpt_model.specs.declared.event.StopCause.TheVariants as cause
 use Rattle.ckpt_model.specs.Machine.{Machine, Setup}
-use Rattle.ckpt_model.specs.Stops.{may_stop, after_stop, is_before_calls, is_working_call, Choice}
-use Rattle.ckpt_model.specs.Runs.{RunsTo, StepsTo}
-use Rattle.ckpt_model.proofs.RunLemmas.{run_on}
+use Rattle.ckpt_model.specs.Stops.{may_stop, is_before_calls, is_working_call}
+use Rattle.ckpt_model.specs.Runs.{RunsTo}
+use Rattle.model_proper.specs.Fair.{IsFair}
 use Rattle.site_core.specs.declared.core_state.Core.{Core}
 use Rattle.site_core.specs.declared.core_state.Stage.{Stage}
 use Rattle.site_core.specs.declared.core_state.Stage.TheVariants as stage
@@ -24,30 +24,20 @@ use Rattle.site_core.specs.declared.core_state.Work.{Work}
 use Rattle.site_core.specs.declared.error.Trouble.{Trouble}
 use Rattle.site_core.specs.declared.error.Trouble.TheVariants as error
 use Rattle.site_core.proofs.Ranks.{first_is}
-use Rattle.site_core.specs.Holds.{IsSaving, Leads, HoldsAt, ToldAt, IsLooking, IsSoFar, is_cut}
+use Rattle.site_core.specs.Holds.{IsSaving, Leads, HoldsAt, ToldAt, IsLooking, IsSoFar, goes_well}
 use Rattle.ckpt_model.specs.Legal.{begins_run, AreOfPrograms, is_stop}
 use Rattle.ckpt_model.specs.Steps.{is_between, is_begun, is_round_and}
 use Rattle.ckpt_model.specs.Questions.{is_complete, is_running, is_recovering, first_call as machine_call}
 use Rattle.site_core.proofs.Gates.{both, round_is}
 use Rattle.site_core.proofs.Told.{tells_end}
+use Rattle.site_core.proofs.Closing.{IsLawful, over_core, closes}
 use Rattle.site_core.proofs.LeftStages.{IsLeft, Remains, remains}
-
-abbrev no_choice : Choice
-no_choice = record { made = []; entries = []; took = false; stored = false }
 
 -- a device's fault, or a full device
 abbrev pub is_device_end : StopCause → Bool
 is_device_end (cause.Device node count) = true
 is_device_end (cause.Full node used capacity) = true
 is_device_end _ = false
-
-chosen : (s : Setup) (m : Machine) (why : StopCause) → may_stop m why ≡ true → is_cut why ≡ true → StepsTo s m (event.Stop why) (after_stop s m no_choice)
-chosen s m (cause.Device node count) may cut = (no_choice, both _ _ (both _ _ may refl) refl, refl)
-chosen s m (cause.Full node used capacity) may cut = (no_choice, both _ _ (both _ _ may refl) refl, refl)
-chosen s m cause.Script may cut = (no_choice, both _ _ (both _ _ may refl) refl, refl)
-chosen s m cause.Ended may cut = absurd (cc cut)
-chosen s m cause.Runs may cut = absurd (cc cut)
-chosen s m cause.Command may cut = absurd (cc cut)
 
 or_true : (a b : Bool) → a ≡ true → a || b ≡ true
 or_true true b e = refl
@@ -57,13 +47,14 @@ or_later : (a b : Bool) → b ≡ true → a || b ≡ true
 or_later true b e = refl
 or_later false b e = e
 
-is_end_cut : (why : StopCause) → is_device_end why ≡ true → is_cut why ≡ true
-is_end_cut (cause.Device node count) e = refl
-is_end_cut (cause.Full node used capacity) e = refl
-is_end_cut cause.Script e = refl
-is_end_cut cause.Ended e = absurd (cc e)
-is_end_cut cause.Runs e = absurd (cc e)
-is_end_cut cause.Command e = absurd (cc e)
+-- a device's end is no good one
+no_good_end : (why : StopCause) → is_device_end why ≡ true → goes_well why ≡ true → ⊥
+no_good_end (cause.Device node count) e good = absurd (cc good)
+no_good_end (cause.Full node used capacity) e good = absurd (cc good)
+no_good_end cause.Script e good = absurd (cc e)
+no_good_end cause.Ended e good = absurd (cc e)
+no_good_end cause.Runs e good = absurd (cc e)
+no_good_end cause.Command e good = absurd (cc e)
 
 may_before : (m : Machine) (why : StopCause) → is_between m.stage ≡ true → is_device_end why ≡ true → may_stop m why ≡ true
 may_before m (cause.Device node count) at end = or_true (is_before_calls m || is_some m.flushing) (is_complete m && is_round_and is_working_call m) (or_true (is_before_calls m) (is_some m.flushing) (or_true (is_between m.stage || is_begun m.stage) (is_running m.stage && list_all (λ r. r.number == 0) m.ranks) (or_true (is_between m.stage) (is_begun m.stage) at)))
@@ -101,11 +92,10 @@ nothing_told stage.Serving places programs events e told = absurd (cc e)
 nothing_told (stage.Saving w n) places programs events e told = absurd (cc e)
 nothing_told (stage.Dropping d n) places programs events e told = absurd (cc e)
 nothing_told stage.Dropped places programs events e told = absurd (cc e)
-nothing_told stage.Stopped places programs events e told = absurd (cc e)
-nothing_told stage.Cut places programs events e told = absurd (cc e)
+nothing_told stage.Over places programs events e told = absurd (cc e)
 
 still_between : (s : Stage) (c : Core) (states : ℕ → DeviceState) (m : Machine) → is_early s ≡ true → HoldsAt s c states m → is_between m.stage ≡ true
-still_between stage.Begun c states m e h = ap is_between h.stands.between
+still_between stage.Begun c states m e h = ap is_between h.begins.between
 still_between stage.Storing c states m e h = ap is_between h.between
 still_between stage.Looking c states m e h = absurd (cc e)
 still_between stage.Mending c states m e h = absurd (cc e)
@@ -113,63 +103,38 @@ still_between stage.Serving c states m e h = absurd (cc e)
 still_between (stage.Saving w n) c states m e h = absurd (cc e)
 still_between (stage.Dropping d n) c states m e h = absurd (cc e)
 still_between stage.Dropped c states m e h = absurd (cc e)
-still_between stage.Stopped c states m e h = absurd (cc e)
-still_between stage.Cut c states m e h = absurd (cc e)
+still_between stage.Over c states m e h = absurd (cc e)
 
 not_early : (s : Stage) (c : Core) → c.stage ≡ s → (c.stage ≡ stage.Begun) ⊎ (c.stage ≡ stage.Storing) → is_early s ≡ true
 not_early s c e (inl at) = ap is_early (sym e ∙ at)
 not_early s c e (inr at) = ap is_early (sym e ∙ at)
 
--- the run may be ended so
-abbrev pub cut_core : Core → Core
-cut_core c = record c { stage = stage.Cut }
-
-pub cut_short : (first : Machine) (c : Core) (programs : List (List Step)) (states : ℕ → DeviceState) (events events' : List Event) (why : StopCause) (m : Machine)
-    → RunsTo (setup_of c) first events m → may_stop m why ≡ true → is_cut why ≡ true → events' ≡ events ++ event.Stop why ∷ []
-    → IsTrue (begins_run c.places (events ++ event.Stop why ∷ [])) × AreOfPrograms programs (events ++ event.Stop why ∷ []) → IsTrue (list_all (λ e. not (is_stop e)) events)
-    → Remains c states m why → Leads first (cut_core c) programs states events'
-cut_short first c programs states events events' why m run may cut more told goes left = record {
-  state = after_stop (setup_of c) m no_choice;
-  run = run_on (setup_of c) first m (after_stop (setup_of c) m no_choice) events events' (event.Stop why) more run (chosen (setup_of c) m why may cut);
-  holds = tt;
-  told = record {
-    front = events;
-    cause = why;
-    is = more;
-    cut = cut;
-    begin = subst (λ (es : List Event). IsTrue (begins_run c.places es)) (sym more) told.0;
-    steps = subst (λ (es : List Event). AreOfPrograms programs es) (sym more) told.1;
-    goes_on = goes;
-  };
-  left = record { front = events; cause = why; is = more; before = m; run = run; made = left.made; may = both _ _ may left.may; same_run = left.same_run; leaves = left.leaves; prefix = left.prefix; later = left.later; plain = left.plain };
-}
-
 -- ## Where a device may end a run
 
 -- nothing was told yet
 pub cut_early : (first : Machine) (c : Core) (programs : List (List Step)) (states after : ℕ → DeviceState) (events events' : List Event) (why : StopCause)
-    → (c.stage ≡ stage.Begun) ⊎ (c.stage ≡ stage.Storing) → is_device_end why ≡ true → events' ≡ events ++ event.Stop why ∷ [] → (leads : Leads first c programs states events) → IsLeft c after leads.state → Leads first (cut_core c) programs after events'
-cut_early first c programs states after events events' why at end more leads left =
+    → IsLawful after → IsFair (setup_of c) first → (c.stage ≡ stage.Begun) ⊎ (c.stage ≡ stage.Storing) → is_device_end why ≡ true → events' ≡ events ++ event.Stop why ∷ [] → (leads : Leads first c programs states events) → IsLeft c after leads.state → Leads first (over_core c) programs after events'
+cut_early first c programs states after events events' why law fair at end more leads left =
     let early = not_early c.stage c refl at in
     let none = nothing_told c.stage c.places programs events early leads.told in
-    cut_short first c programs after events events' why leads.state leads.run (may_before leads.state why (still_between c.stage c states leads.state early leads.holds) end) (is_end_cut why end) more
+    closes first c programs after events events' why leads.state law fair leads.run (may_before leads.state why (still_between c.stage c states leads.state early leads.holds) end) more
     (subst (λ (es : List Event). IsTrue (begins_run c.places (es ++ event.Stop why ∷ [])) × AreOfPrograms programs (es ++ event.Stop why ∷ [])) (sym none) (refl, (tt, tt)))
-    (subst (λ (es : List Event). IsTrue (list_all (λ e. not (is_stop e)) es)) (sym none) refl) (remains c after leads.state why left)
+    (subst (λ (es : List Event). IsTrue (list_all (λ e. not (is_stop e)) es)) (sym none) refl) (λ good. absurd (no_good_end why end good)) (remains c after leads.state why left)
 
 -- the records are being read
 pub cut_looking : (first : Machine) (c : Core) (programs : List (List Step)) (states after : ℕ → DeviceState) (events events' : List Event) (why : StopCause)
-    → c.stage ≡ stage.Looking → is_device_end why ≡ true → events' ≡ events ++ event.Stop why ∷ [] → (leads : Leads first c programs states events) → IsLeft c after leads.state → Leads first (cut_core c) programs after events'
-cut_looking first c programs states after events events' why at end more leads left =
+    → IsLawful after → IsFair (setup_of c) first → c.stage ≡ stage.Looking → is_device_end why ≡ true → events' ≡ events ++ event.Stop why ∷ [] → (leads : Leads first c programs states events) → IsLeft c after leads.state → Leads first (over_core c) programs after events'
+cut_looking first c programs states after events events' why law fair at end more leads left =
     let h : IsLooking c states leads.state = subst (λ (s : Stage). HoldsAt s c states leads.state) at leads.holds in
     let so_far : IsSoFar c.places programs events = subst (λ (s : Stage). ToldAt s c.places programs events) at leads.told in
-    cut_short first c programs after events events' why leads.state leads.run (may_begun leads.state why (ap (λ (m : Machine). is_begun m.stage) h.is) end) (is_end_cut why end) more (tells_end c.places programs events (event.Stop why) so_far tt) so_far.goes_on (remains c after leads.state why left)
+    closes first c programs after events events' why leads.state law fair leads.run (may_begun leads.state why (ap (λ (m : Machine). is_begun m.stage) h.is) end) more (tells_end c.places programs events (event.Stop why) so_far tt) so_far.goes_on (λ good. absurd (no_good_end why end good)) (remains c after leads.state why left)
 
 -- a round of Complete is to be decided
 pub cut_round : (first : Machine) (c : Core) (programs : List (List Step)) (after : ℕ → DeviceState) (events events' : List Event) (node count : ℕ) (m : Machine) (valid : Bool)
-    → RunsTo (setup_of c) first events m → is_complete m ≡ true → machine_call m ≡ Some (step.Complete valid) → IsSoFar c.places programs events → events' ≡ events ++ event.Stop (cause.Device node count) ∷ []
-    → Remains c after m (cause.Device node count) → Leads first (cut_core c) programs after events'
-cut_round first c programs after events events' node count m valid run complete call so_far more left =
-    cut_short first c programs after events events' (cause.Device node count) m run (may_round m node count valid complete call) refl more (tells_end c.places programs events (event.Stop (cause.Device node count)) so_far tt) so_far.goes_on left
+    → IsLawful after → IsFair (setup_of c) first → RunsTo (setup_of c) first events m → is_complete m ≡ true → machine_call m ≡ Some (step.Complete valid) → IsSoFar c.places programs events → events' ≡ events ++ event.Stop (cause.Device node count) ∷ []
+    → Remains c after m (cause.Device node count) → Leads first (over_core c) programs after events'
+cut_round first c programs after events events' node count m valid law fair run complete call so_far more left =
+    closes first c programs after events events' (cause.Device node count) m law fair run (may_round m node count valid complete call) more (tells_end c.places programs events (event.Stop (cause.Device node count)) so_far tt) so_far.goes_on (λ good. absurd (cc good)) left
 
 -- ## What a refused call brings
 
@@ -180,12 +145,12 @@ told_ends (error.Full node used capacity) e = refl
 
 -- a device failed at a gate of the dataset that is being saved
 pub cut_saving : (first : Machine) (c : Core) (programs : List (List Step)) (states after : ℕ → DeviceState) (events events' : List Event) (t : Trouble) (w : Work) (n : ℕ) (m : Manifest)
-    → IsSaving first c programs states events w n m → is_device_fault t ≡ true → events' ≡ events ++ event.Stop (cause_of t) ∷ []
-    → Remains c after (running (contents_of (cells_of states) c) c) (cause_of t) → Leads first (cut_core c) programs after events'
-cut_saving first c programs states after events events' t w n m h fault more left = pick t fault more left where
-  pick : (t : Trouble) → is_device_fault t ≡ true → events' ≡ events ++ event.Stop (cause_of t) ∷ [] → Remains c after (running (contents_of (cells_of states) c) c) (cause_of t) → Leads first (cut_core c) programs after events'
+    → IsLawful after → IsFair (setup_of c) first → IsSaving first c programs states events w n m → is_device_fault t ≡ true → events' ≡ events ++ event.Stop (cause_of t) ∷ []
+    → Remains c after (running (contents_of (cells_of states) c) c) (cause_of t) → Leads first (over_core c) programs after events'
+cut_saving first c programs states after events events' t w n m law fair h fault more left = pick t fault more left where
+  pick : (t : Trouble) → is_device_fault t ≡ true → events' ≡ events ++ event.Stop (cause_of t) ∷ [] → Remains c after (running (contents_of (cells_of states) c) c) (cause_of t) → Leads first (over_core c) programs after events'
   pick (error.Fault node count) f e left =
       let bytes = contents_of (cells_of states) c in
-      cut_round first c programs after events events' node count (running bytes c) h.saves.round.valid h.run (round_is c bytes ∙ h.saves.round.complete) (first_is c.ranks ∙ h.saves.round.first) h.so_far e left
+      cut_round first c programs after events events' node count (running bytes c) h.saves.round.valid law fair h.run (round_is c bytes ∙ h.saves.round.complete) (first_is c.ranks ∙ h.saves.round.first) h.so_far e left
   pick error.Memory f e left = absurd (cc f)
   pick (error.Full node used capacity) f e left = absurd (cc f)

@@ -42,9 +42,11 @@ use Rattle.site_core.specs.Shown.{Contents, running, setup_of}
 use Rattle.site_core.specs.Stored.{Cells, cells_of, contents_of, IsKnown, NoOtherRecords}
 use Rattle.site_core.specs.Holds.{Leads, IsDropCause, IsDropped}
 use Rattle.site_core.proofs.Told.{leads_up, tells_more}
-use Rattle.site_core.proofs.Cuts.{cut_core, cut_round}
+use Rattle.model_proper.specs.Fair.{IsFair}
+use Rattle.site_core.proofs.Cuts.{cut_round}
+use Rattle.site_core.proofs.Closing.{IsLawful, over_core}
 use Rattle.site_core.proofs.LeftStages.{IsLeft, remains, stage_left, left_alike}
-use Rattle.site_core.proofs.Turns.{leads_so}
+use Rattle.site_core.proofs.Turns.{leads_so, lawful}
 use Rattle.site_core.proofs.Gates.{both, round_is}
 use Rattle.site_core.proofs.Ranks.{first_is, owed_is}
 use Rattle.site_core.proofs.Rounds.{verdict_is, all_valid_is}
@@ -120,6 +122,7 @@ dropped_decided first c programs states events events' a at is more leads =
       run = run_on (setup_of c) first (with_dataset bytes c h.dataset) (running bytes d) events events' (event.Decided kind.Complete a) more (subst (λ (m : Machine). RunsTo (setup_of c) first events m) h.is leads.run) step_to;
       so_far = tells_more c.places programs events events' (event.Decided kind.Complete a) more x.1 tt refl;
       well = record {
+        single = h.well.single;
         places = h.well.places;
         rise = h.well.rise;
         below = h.well.below;
@@ -133,6 +136,7 @@ dropped_decided first c programs states events events' a at is more leads =
       files = record {
         stored = h.stored;
         halted = h.halted;
+        unindexed = h.unindexed;
         files = λ y known. h.files y (kept_one y known);
         records = λ i y here sealed. h.records i y here;
         others = λ p which node low place foreign. none_there h p which node low place foreign (cells_of states p (record_name which node)) refl;
@@ -166,19 +170,19 @@ dropped_decided first c programs states events events' a at is more leads =
 
 -- a device failed at a file that was to go, or at the sync behind it; the devices may have changed meanwhile
 pub cut_dropping : (first : Machine) (c : Core) (programs : List (List Step)) (states after : ℕ → DeviceState) (events events' : List Event) (t : Trouble) (d : Drop) (n : ℕ)
-    → c.stage ≡ stage.Dropping d n → Leads first c programs states events → is_device_fault t ≡ true → events' ≡ events ++ event.Stop (cause_of t) ∷ [] → (place : ℕ) → OnlyAt place KeptAlike states after → Leads first (cut_core c) programs after events'
-cut_dropping first c programs states after events events' t d n at leads fault more place done = pick t fault more where
-  pick : (t : Trouble) → is_device_fault t ≡ true → events' ≡ events ++ event.Stop (cause_of t) ∷ [] → Leads first (cut_core c) programs after events'
+    → IsLawful after → IsFair (setup_of c) first → c.stage ≡ stage.Dropping d n → Leads first c programs states events → is_device_fault t ≡ true → events' ≡ events ++ event.Stop (cause_of t) ∷ [] → (place : ℕ) → OnlyAt place KeptAlike states after → Leads first (over_core c) programs after events'
+cut_dropping first c programs states after events events' t d n law fair at leads fault more place done = pick t fault more where
+  pick : (t : Trouble) → is_device_fault t ≡ true → events' ≡ events ++ event.Stop (cause_of t) ∷ [] → Leads first (over_core c) programs after events'
   pick (error.Fault node count) f e =
       let x = dropping_at first c programs states events d n at leads in
       let h = x.0.leaves in
       let bytes = contents_of (cells_of states) c in
-      cut_round first c programs after events events' node count (with_dataset bytes c h.dataset) h.round.valid (subst (λ (m : Machine). RunsTo (setup_of c) first events m) h.is leads.run) (round_is c bytes ∙ h.round.complete) (first_is c.ranks ∙ h.round.first) x.1 e
+      cut_round first c programs after events events' node count (with_dataset bytes c h.dataset) h.round.valid law fair (subst (λ (m : Machine). RunsTo (setup_of c) first events m) h.is leads.run) (round_is c bytes ∙ h.round.complete) (first_is c.ranks ∙ h.round.first) x.1 e
       (remains c after (with_dataset bytes c h.dataset) (cause.Device node count) (subst (λ (m : Machine). IsLeft c after m) h.is (left_alike c place states after leads.state done (stage_left (stage.Dropping d n) c states leads.state at refl x.0))))
   pick error.Memory f e = absurd (cc f)
   pick (error.Full node used capacity) f e = absurd (cc f)
 
-module _ {D : Type 0} (state : D → DeviceState) (old new : Site D) (t : Trouble) (is : new.history.events ≡ old.history.events ++ event.Stop (cause_of t) ∷ []) (core : new.core ≡ cut_core old.core) (programs : new.programs ≡ old.programs) where
+module _ {D : Type 0} (state : D → DeviceState) (old new : Site D) (t : Trouble) (is : new.history.events ≡ old.history.events ++ event.Stop (cause_of t) ∷ []) (core : new.core ≡ over_core old.core) (programs : new.programs ≡ old.programs) where
   pub ends_dropping : (d : Drop) (n : ℕ) → old.core.stage ≡ stage.Dropping d n → is_device_fault t ≡ true → (place : ℕ) (bay : Rack D) → new.bay ≡ bay → OnlyAt place KeptAlike (states_of state old.bay) (states_of state bay) → Keeps state old new
-  ends_dropping d n at fault place bay same done tells first f =
-      leads_so state old new t is core programs first (cut_dropping first old.core old.programs (states_of state old.bay) (states_of state new.bay) old.history.events new.history.events t d n at f fault is place (subst (λ (b : Rack D). OnlyAt place KeptAlike (states_of state old.bay) (states_of state b)) (sym same) done))
+  ends_dropping d n at fault place bay same done tells first base f =
+      leads_so state old new t is core programs first (cut_dropping first old.core old.programs (states_of state old.bay) (states_of state new.bay) old.history.events new.history.events t d n (lawful state base.sound new.bay) base.fair at f fault is place (subst (λ (b : Rack D). OnlyAt place KeptAlike (states_of state old.bay) (states_of state b)) (sym same) done))

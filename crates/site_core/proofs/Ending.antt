@@ -5,7 +5,7 @@ use Rattle.std.proofs.Math.Path.{fun_ext}
 use Rattle.std.proofs.lemmas.List.{get_or_past}
 use Rattle.std.proofs.lemmas.List.FromFn.{length-range_with_len}
 use Rattle.site_core.specs.Shown.{all_files}
-use Rattle.site_core.proofs.Halts.{halt_same}
+use Rattle.site_core.proofs.Halts.{halt_same, unindexed_same}
 use Rattle.site_core.proofs.Hands.{same_all}
 use Rattle.std.specs.List.{list_any, list_all}
 use Rattle.std.proofs.lemmas.Bool.{cases_eq}
@@ -22,10 +22,10 @@ use Rattle.member_store.specs.declared.part.Part.TheVariants.{File}
 use Rattle.ckpt_model.specs.declared.event.Event.{Event}
 use Rattle.ckpt_model.specs.declared.event.Event.TheVariants as event
 use Rattle.ckpt_model.specs.declared.event.StopCause.TheVariants as cause
-use Rattle.ckpt_model.specs.Machine.{Machine, Kept}
-use Rattle.ckpt_model.specs.Legal.{IsRunOf, is_stop, ends_with_stop, is_script_stop}
-use Rattle.ckpt_model.specs.Legal.Place.{AtEnd}
-use Rattle.ckpt_model.proofs.RunLemmas.{run_on}
+use Rattle.ckpt_model.specs.Machine.{Machine, Setup, Kept}
+use Rattle.ckpt_model.specs.Stops.{after_stop}
+use Rattle.model_proper.specs.Fair.{IsFair}
+use Rattle.site_core.specs.Waiting.{is_over}
 use Rattle.round_core.specs.declared.seat.Seat.{Seat}
 use Rattle.round_core.specs.Seats.{is_complete}
 use Rattle.site_core.specs.declared.cache.Cached.{Cached}
@@ -38,12 +38,14 @@ use Rattle.site_core.specs.declared.core_state.Stage.TheVariants as stage
 use Rattle.site_core.specs.Shown.{Contents, running, stopped, setup_of, kept_of, mends}
 use Rattle.site_core.specs.Choosing.{AscendFrom, seals, is_at_rest}
 use Rattle.site_core.specs.Stored.{Cells, cells_of, contents_in, contents_of, is_named, place_of_rank, file_name, FilesStand, FileStands, RecordsStand, RecordIs, IsAmong, IsKnown, IsWell, IsOfSite, FilesHold, NoFutureFiles, NoOtherRecords, IsFuture}
-use Rattle.site_core.specs.Holds.{Leads, StandsFor, IsOneOf, settled_set, IsOver, IsPending, IsFileOf, NoRecordYet, WorkIs}
-use Rattle.site_core.proofs.Told.{is_up, IsLed, led, tells_end}
+use Rattle.site_core.specs.Holds.{Leads, CanBegin, IsOneOf, settled_set, IsUp, IsPending, IsFileOf, NoRecordYet, WorkIs}
+use Rattle.site_core.proofs.Told.{is_up, led, at_up, tells_end}
 use Rattle.site_core.proofs.Frames.{IsNamed, named, is_place, data-same, files-same, file_no_record, AreFilesSame}
 use Rattle.site_core.proofs.Names.{parts-same}
 use Rattle.site_core.proofs.Puts.{row_named, row_rank, few_rows, kept_other, few_nodes, rank_place_low, place_is}
-use Rattle.site_core.proofs.Rounds.{ends}
+use Rattle.site_core.proofs.Rounds.{may_end}
+use Rattle.site_core.proofs.LeftStages.{remains, stage_left}
+use Rattle.site_core.proofs.Closing.{IsLawful, over_core, closes, plain_choice, decides_nothing}
 
 some_same : {X : Type 0} (x y : X) → Some x ≡ Some y → x ≡ y
 some_same x y e = cc
@@ -66,59 +68,16 @@ all-settled (x ∷ xs) a b =
     let q = or-parts (seals x) (list_any seals xs) b in
     ap (λ (t : Bool). t && list_all (λ (y : Cached). is_at_rest y.mark) xs) (rest-mark x.mark p.0 q.0) ∙ all-settled xs p.1 q.1
 
-ends-last : (events : List Event) (e : Event) → IsTrue (list_all (λ x. not (is_stop x)) events) → is_stop e ≡ true → IsTrue (ends_with_stop (events ++ e ∷ []))
-ends-last [] e goes stops = stops
-ends-last (f ∷ []) e goes stops =
-    let p = Rattle.site_core.proofs.Told.and_true (not (is_stop f)) true goes in
-    ap (λ (t : Bool). t && is_stop e) p.0 ∙ stops
-ends-last (f ∷ g ∷ fs) e goes stops =
-    let p = Rattle.site_core.proofs.Told.and_true (not (is_stop f)) (list_all (λ x. not (is_stop x)) (g ∷ fs)) goes in
-    ap (λ (t : Bool). t && ends_with_stop (g ∷ (fs ++ e ∷ []))) p.0 ∙ ends-last (g ∷ fs) e p.1 stops
-
-no-script : (f : Event) → not (is_stop f) ≡ true → not (is_script_stop f) ≡ true
-no-script (event.Stop why) e = absurd (cc e)
-no-script _ e = refl
-
-none-script : (events : List Event) → IsTrue (list_all (λ x. not (is_stop x)) events) → IsTrue (list_all (λ x. not (is_script_stop x)) (events ++ event.Stop cause.Ended ∷ []))
-none-script [] goes = refl
-none-script (f ∷ fs) goes =
-    let p = Rattle.site_core.proofs.Told.and_true (not (is_stop f)) (list_all (λ x. not (is_stop x)) fs) goes in
-    ap (λ (t : Bool). t && list_all (λ x. not (is_script_stop x)) (fs ++ event.Stop cause.Ended ∷ [])) (no-script f p.0) ∙ none-script fs p.1
-
-pub ended : (first : Machine) (c : Core) (programs : List (List Step)) (states : ℕ → DeviceState) (events events' : List Event) → c.stage ≡ stage.Serving → Leads first c programs states events
-    → is_complete c.ranks ≡ true → list_all (λ (seat : Seat). seat.ended) c.ranks ≡ true → events' ≡ events ++ event.Stop cause.Ended ∷ [] → Leads first (record c { stage = stage.Stopped }) programs states events'
-ended first c programs states events events' at leads complete all more =
-    let h = led first c programs states events (ap is_up at) leads in
-    let working : WorkIs stage.Serving c states = subst (λ (s : Stage). WorkIs s c states) at h.working in
-    let none : NoRecordYet stage.Serving c (cells_of states) = subst (λ (s : Stage). NoRecordYet s c (cells_of states)) at h.unrecorded in
-    let quiet = subst (λ (s : Stage). (p : ℕ) (q : List ℕ) → p ≤ 32 → (p < c.shape.nodes → IsPending s c q → ⊥) → IsAtRest ((states p).file q)) at h.quiet in
-    let bytes = contents_of (cells_of states) c in
-    let told = tells_end c.places programs events (event.Stop cause.Ended) h.so_far tt in
-    record {
-      state = stopped bytes c;
-      run = run_on (setup_of c) first (running bytes c) (stopped bytes c) events events' (event.Stop cause.Ended) more h.run (ends c bytes complete all);
-      holds = inr (
-        record c { stage = stage.Stopped },
-        refl,
-        record {
-          is = refl;
-          well = record { places = h.well.places; rise = h.well.rise; below = h.well.below; sets = h.well.sets; opened_run = h.well.opened_run; opened_below = h.well.opened_below; opened_last = h.well.opened_last; output = h.well.output; ranks = h.well.ranks };
-          files = record { stored = h.files.stored; halted = h.files.halted; files = h.files.files; records = h.files.records; others = h.files.others; future = h.files.future; fresh = h.files.fresh };
-          quiet = quiet;
-          unrecorded = none;
-          settled = all-settled c.kept working.0 working.1;
-        },
-      );
-      told = subst (λ (es : List Event). IsRunOf c.places programs AtEnd es) (sym more) (record {
-        begin = told.0;
-        stop = ends-last events (event.Stop cause.Ended) h.so_far.goes_on refl;
-        steps = told.1;
-        place = none-script events h.so_far.goes_on;
-      });
-      left = tt;
-    }
-
 -- ## The stop
+
+-- a run whose last call was End: nothing but the files of an open dataset may be pending, and each dataset in cache is settled
+record IsAtEnd (c : Core) (states : ℕ → DeviceState) (m : Machine) : Type 0 where
+  pub is : m ≡ stopped (contents_of (cells_of states) c) c
+  pub well : IsWell c
+  pub files : FilesHold c (cells_of states)
+  pub quiet : (p : ℕ) (q : List ℕ) → p ≤ 32 → (p < c.shape.nodes → IsPending stage.Serving c q → ⊥) → IsAtRest ((states p).file q)
+  pub unrecorded : NoRecordYet stage.Serving c (cells_of states)
+  pub settled : list_all (λ (x : Cached). is_at_rest x.mark) c.kept ≡ true
 
 manifests : List Cached → List Manifest
 manifests sets = map (λ (x : Cached). x.manifest) sets
@@ -152,7 +111,7 @@ at-rest-at (y ∷ ys) zero x all at = unsealed x.mark (ap (λ (z : Cached). is_a
   unsealed mark.Settled e = refl
 at-rest-at (y ∷ ys) (suc i) x all at = at-rest-at ys i x (Rattle.site_core.proofs.Told.and_true (is_at_rest y.mark) (list_all (λ (z : Cached). is_at_rest z.mark) ys) all).1 at
 
-module _ (c : Core) (states after : ℕ → DeviceState) (m : Machine) (h : IsOver c states m) (crash : (p : ℕ) → p ≤ 32 → Crashes (states p) (after p)) (tells : (p : ℕ) → p ≤ 32 → (after p).tells ≡ true) where
+module _ (c : Core) (states after : ℕ → DeviceState) (m : Machine) (h : IsAtEnd c states m) (crash : (p : ℕ) → p ≤ 32 → Crashes (states p) (after p)) (tells : (p : ℕ) → p ≤ 32 → (after p).tells ≡ true) where
   -- what was at rest is as it was
   stays : (p : ℕ) (q : List ℕ) → p ≤ 32 → (p < c.shape.nodes → IsPending stage.Serving c q → ⊥) → cells_of after p q ≡ cells_of states p q
   stays p q low calm = rest_leaves ((states p).file q) ((after p).file q).now (h.quiet p q low calm) ((crash p low).outcome (tells p low) q)
@@ -268,10 +227,11 @@ module _ (c : Core) (states after : ℕ → DeviceState) (m : Machine) (h : IsOv
   prefix_same = fun_ext (λ q. stays 32 q (omega arith) (λ on. absurd (omega (arith, on, few_nodes c.shape))))
 
   -- the devices stand for the run's last state
-  pub crashed : StandsFor (setup_of c) after m
+  crashed : CanBegin (setup_of c) after m
   crashed =
       let sets = map (λ (x : Cached). x.manifest) c.kept in
       record {
+        single = h.well.single;
         sets = sets;
         quiet = λ p q low. (crash p low).at_rest q;
         store = record {
@@ -291,6 +251,7 @@ module _ (c : Core) (states after : ℕ → DeviceState) (m : Machine) (h : IsOv
         index = ap (λ (y : Machine). y.index) h.is;
         halt = ap (λ (y : Machine). y.halt) h.is ∙ sym (halt_same (cells_of states) (cells_of after) prefix_same ∙ h.files.halted);
         mark_is = ap (λ (y : Machine). y.mark) h.is;
+        unindexed = unindexed_same (cells_of states) (cells_of after) prefix_same h.files.unindexed;
       } where
         in_cache : (x : Manifest) → IsOneOf (map (λ (y : Cached). y.manifest) c.kept) x → IsAmong c.kept x
         in_cache x one = let y = one-among c.kept one.0 x one.1 in (one.0, y.0, y.1, y.2)
@@ -298,3 +259,25 @@ module _ (c : Core) (states after : ℕ → DeviceState) (m : Machine) (h : IsOv
         same-in : (f g : Cached → Kept) (xs : List Cached) → ((i : ℕ) (x : Cached) → slice_get xs i ≡ Some x → f x ≡ g x) → map f xs ≡ map g xs
         same-in f g [] same = refl
         same-in f g (x ∷ xs) same = ap (λ (k : Kept). k ∷ map f xs) (same 0 x refl) ∙ ap (λ (ks : List Kept). g x ∷ ks) (same-in f g xs (λ i y at. same (suc i) y at))
+
+-- ## The run's last event
+
+-- the stop of a run whose ranks all ended decides nothing
+stop_is : (s : Setup) (bytes : Contents) (c : Core) (entries : List Bool) (took : Bool) → after_stop s (running bytes c) (plain_choice entries took) ≡ stopped bytes c
+stop_is s bytes c entries took = refl
+
+pub ended : (first : Machine) (c : Core) (programs : List (List Step)) (states : ℕ → DeviceState) (events events' : List Event) → IsLawful states → IsFair (setup_of c) first → c.stage ≡ stage.Serving → Leads first c programs states events
+    → is_complete c.ranks ≡ true → list_all (λ (seat : Seat). seat.ended) c.ranks ≡ true → events' ≡ events ++ event.Stop cause.Ended ∷ [] → Leads first (over_core c) programs states events'
+ended first c programs states events events' law fair at leads complete all more =
+    let h = led first c programs states events (ap is_up at) leads in
+    let working : WorkIs stage.Serving c states = subst (λ (s : Stage). WorkIs s c states) at h.working in
+    let none : NoRecordYet stage.Serving c (cells_of states) = subst (λ (s : Stage). NoRecordYet s c (cells_of states)) at h.unrecorded in
+    let quiet = subst (λ (s : Stage). (p : ℕ) (q : List ℕ) → p ≤ 32 → (p < c.shape.nodes → IsPending s c q → ⊥) → IsAtRest ((states p).file q)) at h.quiet in
+    let bytes = contents_of (cells_of states) c in
+    let end : IsAtEnd c states (stopped bytes c) = record { is = refl; well = h.well; files = h.files; quiet = quiet; unrecorded = none; settled = all-settled c.kept working.0 working.1 } in
+    let up : IsUp c states (running bytes c) = record { is = refl; well = h.well; files = h.files; quiet = h.quiet; unrecorded = h.unrecorded; working = h.working } in
+    closes first c programs states events events' cause.Ended (running bytes c) law fair h.run (may_end c bytes complete all) more (tells_end c.places programs events (event.Stop cause.Ended) h.so_far tt) h.so_far.goes_on
+    (λ good choice may_be after stop. subst (λ (m : Machine). CanBegin (setup_of c) after m)
+    (sym (ap (after_stop (setup_of c) (running bytes c)) (decides_nothing (setup_of c) (running bytes c) cause.Ended choice refl (λ e. absurd (cc e)) may_be) ∙ stop_is (setup_of c) bytes c choice.entries choice.took))
+    (crashed c states after (stopped bytes c) end stop.crashes stop.tells))
+    (remains c states (running bytes c) cause.Ended (stage_left c.stage c states (running bytes c) refl (ap is_over at) (at_up c.stage c states (running bytes c) (ap is_up at) up)))

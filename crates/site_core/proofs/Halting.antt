@@ -15,9 +15,11 @@ use Rattle.ckpt_model.specs.Stops.{may_stop}
 use Rattle.site_core.specs.declared.core_state.Core.{Core}
 use Rattle.site_core.specs.declared.core_state.Stage.{Stage}
 use Rattle.site_core.specs.declared.core_state.Stage.TheVariants as stage
+use Rattle.model_proper.specs.Fair.{IsFair}
+use Rattle.site_core.specs.Shown.{setup_of}
 use Rattle.site_core.specs.Holds.{HoldsAt, ToldAt, IsSoFar, Leads}
 use Rattle.site_core.specs.Waiting.{is_over}
-use Rattle.site_core.proofs.Cuts.{cut_short}
+use Rattle.site_core.proofs.Closing.{IsLawful, closes}
 use Rattle.site_core.proofs.Told.{tells_end}
 use Rattle.site_core.proofs.LeftStages.{stage_left, remains}
 
@@ -46,7 +48,7 @@ running_may m at = third_of (is_between m.stage) (is_begun m.stage) (is_running 
 
 -- the script may stop a run that isn't over
 may_halt : (s : Stage) (c : Core) (states : ℕ → DeviceState) (m : Machine) → is_over s ≡ false → HoldsAt s c states m → may_stop m cause.Script ≡ true
-may_halt stage.Begun c states m on h = between_may m (ap is_between h.stands.between)
+may_halt stage.Begun c states m on h = between_may m (ap is_between h.begins.between)
 may_halt stage.Storing c states m on h = between_may m (ap is_between h.between)
 may_halt stage.Looking c states m on h = begun_may m (ap (λ (x : Machine). is_begun x.stage) h.is)
 may_halt stage.Mending c states m on h = running_may m (ap (λ (x : Machine). is_running x.stage) h.is)
@@ -54,8 +56,7 @@ may_halt stage.Serving c states m on h = running_may m (ap (λ (x : Machine). is
 may_halt (stage.Saving w n) c states m on h = running_may m (ap (λ (x : Machine). is_running x.stage) h.is)
 may_halt (stage.Dropping d n) c states m on h = running_may m (ap (λ (x : Machine). is_running x.stage) h.leaves.is)
 may_halt stage.Dropped c states m on h = running_may m (ap (λ (x : Machine). is_running x.stage) h.is)
-may_halt stage.Stopped c states m on h = absurd (cc on)
-may_halt stage.Cut c states m on h = absurd (cc on)
+may_halt stage.Over c states m on h = absurd (cc on)
 
 module _ (places : List ℕ) (programs : List (List Step)) (events : List Event) (e : Event) where
   abbrev IsEnding : Type 0
@@ -76,14 +77,13 @@ ending stage.Serving places programs events on told = later_end places programs 
 ending (stage.Saving w n) places programs events on told = later_end places programs events told
 ending (stage.Dropping d n) places programs events on told = later_end places programs events told
 ending stage.Dropped places programs events on told = later_end places programs events told
-ending stage.Stopped places programs events on told = absurd (cc on)
-ending stage.Cut places programs events on told = absurd (cc on)
+ending stage.Over places programs events on told = absurd (cc on)
 
 pub halts : (first : Machine) (c : Core) (programs : List (List Step)) (states : ℕ → DeviceState) (events events' : List Event)
-    → is_over c.stage ≡ false → events' ≡ events ++ event.Stop cause.Script ∷ [] → Leads first c programs states events → Leads first (record c { stage = stage.Cut }) programs states events'
-halts first c programs states events events' on more leads =
+    → IsLawful states → IsFair (setup_of c) first → is_over c.stage ≡ false → events' ≡ events ++ event.Stop cause.Script ∷ [] → Leads first c programs states events → Leads first (record c { stage = stage.Over }) programs states events'
+halts first c programs states events events' law fair on more leads =
     let end = ending c.stage c.places programs events on leads.told in
-    cut_short first c programs states events events' cause.Script leads.state leads.run (may_halt c.stage c states leads.state on leads.holds) refl more end.0 end.1 (remains c states leads.state cause.Script (stage_left c.stage c states leads.state refl on leads.holds))
+    closes first c programs states events events' cause.Script leads.state law fair leads.run (may_halt c.stage c states leads.state on leads.holds) more end.0 end.1 (λ good. absurd (cc good)) (remains c states leads.state cause.Script (stage_left c.stage c states leads.state refl on leads.holds))
 
 -- a test that tells whether it is over, and says no
 pub not_over : (says over : Bool) → (says ≡ true) ↔ (over ≡ true) → says ≡ false → over ≡ false

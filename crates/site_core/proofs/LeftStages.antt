@@ -1,11 +1,12 @@
 -- What a stop leaves of the datasets in cache, at each stage of a run.
 use Rattle.std.proofs.Common.{◌+◌, ap₂, codes, ◌≡◌, ◌≢◌, ◌⊎◌, inl, inr, ℕ, zero, suc, ◌/◌, ◌<◌, ◌≤◌, ◌^◌, Bool, true, false, List, [], ◌∷◌, map, Option, Some, None, refl, sym, ap, ◌∙◌, subst, slice_get, arith}
-use Rattle.std.specs.Prelude.{nat_lt, IsTrue, fold, option_map}
+use Rattle.std.specs.Prelude.{nat_lt, IsTrue, fold, option_map, get_or}
 use Rattle.std.specs.List.{list_any}
 use Rattle.std.proofs.Math.Path.{fun_ext}
 use Rattle.std.proofs.lemmas.Bool.Decides.{nat_tests}
 use Rattle.scr_base.specs.Sets.{numbers_below}
 use Rattle.scr_base.specs.declared.content.Step.{Step}
+use Rattle.scr_base.specs.declared.shape.DataId.{DataId}
 use Rattle.scr_base.specs.declared.shape.Shape.{Shape}
 use Rattle.node_device.specs.File.{File, IsAtRest, MayLeave, byte_at}
 use Rattle.node_device.specs.DeviceState.{DeviceState}
@@ -26,6 +27,7 @@ use Rattle.ckpt_model.specs.declared.event.StopCause.TheVariants as cause
 use Rattle.ckpt_model.specs.Moves.{after}
 use Rattle.ckpt_model.specs.Stops.{may_make, may_store, pending_of}
 use Rattle.ckpt_model.specs.Machine.{Machine, Setup, Stage as Place}
+use Rattle.site_stands.specs.Entry.{entry_name, ReadsEntry, mark_in}
 use Rattle.site_core.specs.declared.cache.Cached.{Cached}
 use Rattle.site_core.specs.declared.cache.Manifest.{Manifest}
 use Rattle.site_core.specs.declared.core_state.Core.{Core}
@@ -38,8 +40,8 @@ use Rattle.site_core.specs.Numbers.{IsNumberFile}
 use Rattle.site_core.specs.Choosing.{is_being_sealed, seals}
 use Rattle.site_core.specs.Shown.{running, setup_of, kept_of}
 use Rattle.site_core.specs.Waiting.{is_over}
-use Rattle.site_core.specs.Stored.{Cells, cells_of, run_number, contents_of, contents_in, file_name, place_of_rank, FilesStand, FileStands, RecordsStand, NoOtherRecords, IsAmong, IsKnown, IsWell, IsOfSite, FilesHold, RecordIs}
-use Rattle.site_core.specs.Left.{LeavesSaved, LeavesWhole, LeavesKept, PrefixLeft, LeavesPrefix, NoLater, IsPlain, is_sealing_work, is_filling_at}
+use Rattle.site_core.specs.Stored.{Cells, cells_of, run_number, contents_of, contents_in, file_name, place_of_rank, FilesStand, FileStands, RecordsStand, NoOtherRecords, IsAmong, IsKnown, IsWell, IsOfSite, IsUnindexed, FilesHold, RecordIs}
+use Rattle.site_core.specs.Left.{LeavesSaved, LeavesWhole, LeavesKept, PrefixLeft, LeavesPrefix, LeavesUnindexed, NoLater, IsPlain, is_sealing_work, is_filling_at}
 use Rattle.site_core.specs.Holds.{IsOneOf, settled_set, HoldsAt, IsBegun, IsStoring, IsLooking, IsUp, IsSaved, IsSaving, IsPending, IsFileOf, IsOfDataset, IsLeavingAt, WorkIs, NoRecordYet, is_whole_at, is_sealed_at}
 use Rattle.site_core.proofs.Frames.{is_place, file_no_record, div_small, place_named}
 use Rattle.site_core.proofs.Puts.{few_nodes, few_rows, row_rank, row_named, node_below, place_is, kept_other}
@@ -59,6 +61,7 @@ pub record IsLeft (c : Core) (states : ℕ → DeviceState) (m : Machine) : Type
   pub prefix : LeavesPrefix (states 32) m
   pub later : NoLater states m.run
   pub plain : IsPlain m
+  pub unindexed : LeavesUnindexed (states 32)
 
 -- What is known of the datasets in cache where this state is stopped so: perhaps with a change that a refused call made.
 pub record Remains (c : Core) (states : ℕ → DeviceState) (m : Machine) (why : StopCause) : Type 0 where
@@ -69,8 +72,9 @@ pub record Remains (c : Core) (states : ℕ → DeviceState) (m : Machine) (why 
   pub prefix : LeavesPrefix (states 32) m
   pub later : NoLater states m.run
   pub plain : IsPlain m
+  pub unindexed : LeavesUnindexed (states 32)
 
-nothing_made : (s : Setup) (m : Machine) (why : StopCause) → IsTrue (may_make s m why [])
+pub nothing_made : (s : Setup) (m : Machine) (why : StopCause) → IsTrue (may_make s m why [])
 nothing_made s m (cause.Device node count) = refl
 nothing_made s m (cause.Full node used capacity) = refl
 nothing_made s m cause.Script = refl
@@ -80,7 +84,7 @@ nothing_made s m cause.Command = refl
 
 -- with none
 pub remains : (c : Core) (states : ℕ → DeviceState) (m : Machine) (why : StopCause) → IsLeft c states m → Remains c states m why
-remains c states m why l = record { made = []; may = nothing_made (setup_of c) m why; same_run = refl; leaves = l.leaves; prefix = l.prefix; later = l.later; plain = l.plain }
+remains c states m why l = record { made = []; may = nothing_made (setup_of c) m why; same_run = refl; leaves = l.leaves; prefix = l.prefix; later = l.later; plain = l.plain; unindexed = l.unindexed }
 
 some_same : {X : Type 0} (x y : X) → Some x ≡ Some y → x ≡ y
 some_same x y e = cc
@@ -108,6 +112,29 @@ rest_prefix d m rest run halt left out =
       run = ap (λ (files : List ℕ → Option (List ℕ)). run_number (pair_value (codes "run") files)) same ∙ run;
       halt = ap (λ (files : List ℕ → Option (List ℕ)). halt_in (pair_value (codes "halt") files)) same ∙ halt;
     }
+
+-- an index record or a mark stands under no name of the run's number
+entry_apart : (which : DataId) → IsNumberFile (entry_name which) → ⊥
+entry_apart which (inl is) = absurd (omega (arith, ap (λ (name : List ℕ). get_or name 0 0) is))
+entry_apart which (inr is) = absurd (omega (arith, ap (λ (name : List ℕ). get_or name 0 0) is))
+
+mark_apart : (k : ℕ) → IsNumberFile (copy_name (codes "cur") k) → ⊥
+mark_apart k (inl is) = absurd (omega (arith, ap (λ (name : List ℕ). get_or name 0 0) is))
+mark_apart k (inr is) = absurd (omega (arith, ap (λ (name : List ℕ). get_or name 0 0) is))
+
+-- a prefix that has neither, and of which these files are at rest, is left so
+rest_unindexed : (d : DeviceState) → ((q : List ℕ) → (IsNumberFile q → ⊥) → IsAtRest (d.file q)) → IsUnindexed (λ q. (d.file q).now) → LeavesUnindexed d
+rest_unindexed d rest h = record {
+  entries = λ which o may reads. h.entries which (subst (λ (x : Option (List ℕ)). ReadsEntry x which) (rest_leaves (d.file (entry_name which)) o (rest (entry_name which) (entry_apart which)) may) reads);
+  unmarked = λ a b may_a may_b. ap mark_in (ap₂ newer (ap (value_in 0) (rest_leaves (d.file (copy_name (codes "cur") 0)) a (rest (copy_name (codes "cur") 0) (mark_apart 0)) may_a)) (ap (value_in 1) (rest_leaves (d.file (copy_name (codes "cur") 1)) b (rest (copy_name (codes "cur") 1) (mark_apart 1)) may_b))) ∙ h.unmarked;
+}
+
+-- and so is one that may leave no more of them
+less_unindexed : (old new : DeviceState) → ((q : List ℕ) → (IsNumberFile q → ⊥) → (o : Option (List ℕ)) → MayLeave (new.file q) o → MayLeave (old.file q) o) → LeavesUnindexed old → LeavesUnindexed new
+less_unindexed old new less h = record {
+  entries = λ which o may. h.entries which o (less (entry_name which) (entry_apart which) o may);
+  unmarked = λ a b may_a may_b. h.unmarked a b (less (copy_name (codes "cur") 0) (mark_apart 0) a may_a) (less (copy_name (codes "cur") 1) (mark_apart 1) b may_b);
+}
 
 may_be_stored : (m : Machine) → m.stage ≡ Place.Between → m.run + 1 < 2 ^ 32 → IsTrue (may_store m true)
 may_be_stored m at lt = rw (at, below m.run lt) refl where
@@ -309,7 +336,7 @@ module _ (w : Work) (n : ℕ) (c : Core) (m : Manifest) (states : ℕ → Device
   loose_prefix = rest_prefix (states 32) (running (contents_of (cells_of states) c) c) (λ q. h.quiet 32 q (omega arith) (λ lt pending. no_node c.shape lt)) h.files.stored h.files.halted
 
   pub loose_left : IsLeft c states (running (contents_of (cells_of states) c) c)
-  loose_left = record { leaves = loose_kept; prefix = loose_prefix; later = none_later c.shape c.run c.places states c.kept c.opened (Some m) saving_facts; plain = record { mark = refl; pending = refl } }
+  loose_left = record { leaves = loose_kept; prefix = loose_prefix; later = none_later c.shape c.run c.places states c.kept c.opened (Some m) saving_facts; plain = record { mark = refl; pending = refl }; unindexed = rest_unindexed (states 32) (λ q other. h.quiet 32 q (omega arith) (λ lt pending. no_node c.shape lt)) h.files.unindexed }
 
 -- ## A dataset on its way out
 
@@ -367,12 +394,12 @@ saving_now w n c states m at h =
     } in
     (x, loose)
 
-begun_facts : (c : Core) (states : ℕ → DeviceState) (m : Machine) (h : IsBegun c states m) → CacheFacts c.shape m.run c.places states (map settled_set h.stands.sets) None None
-begun_facts c states m h = early_facts c.shape m.run c.places states h.stands.sets h.fresh.places h.stands.store.sets_are
-    (λ x is. subst (λ (ps : List ℕ). FilesStand (cells_of states) ps c.shape.ranks x) (sym h.fresh.places) (h.stands.store.files x is))
-    (λ x is. subst (λ (ps : List ℕ). RecordsStand (cells_of states) ps x) (sym h.fresh.places) (h.stands.store.records x is))
-    (subst (λ (ps : List ℕ). NoOtherRecords (IsOneOf h.stands.sets) (cells_of states) ps) (sym h.fresh.places) h.stands.store.others)
-    (λ p q low. h.stands.quiet p q (omega (arith, low)))
+begun_facts : (c : Core) (states : ℕ → DeviceState) (m : Machine) (h : IsBegun c states m) → CacheFacts c.shape m.run c.places states (map settled_set h.begins.sets) None None
+begun_facts c states m h = early_facts c.shape m.run c.places states h.begins.sets h.fresh.places h.begins.store.sets_are
+    (λ x is. subst (λ (ps : List ℕ). FilesStand (cells_of states) ps c.shape.ranks x) (sym h.fresh.places) (h.begins.store.files x is))
+    (λ x is. subst (λ (ps : List ℕ). RecordsStand (cells_of states) ps x) (sym h.fresh.places) (h.begins.store.records x is))
+    (subst (λ (ps : List ℕ). NoOtherRecords (IsOneOf h.begins.sets) (cells_of states) ps) (sym h.fresh.places) h.begins.store.others)
+    (λ p q low. h.begins.quiet p q (omega (arith, low)))
 
 storing_facts : (c : Core) (states : ℕ → DeviceState) (m : Machine) (h : IsStoring c states m) → CacheFacts c.shape m.run c.places states (map settled_set h.sets) None None
 storing_facts c states m h = early_facts c.shape m.run c.places states h.sets h.fresh.places h.sets_are h.files h.records h.others (λ p q low. h.quiet p q (omega (arith, low)) (λ is. absurd (omega (arith, is, low))))
@@ -386,13 +413,13 @@ looking_facts c states m h = early_facts c.shape c.run c.places states h.sets h.
 
 stage_kept : (s : Stage) (c : Core) (states : ℕ → DeviceState) (m : Machine) → c.stage ≡ s → is_over s ≡ false → HoldsAt s c states m → LeavesKept (setup_of c) c.places states m
 stage_kept stage.Begun c states m at on h = record {
-  sets = map settled_set h.stands.sets;
-  kept = subst (λ (ps : List ℕ). m.kept ≡ map (kept_of (setup_of c) (contents_in (cells_of states) ps c.shape.ranks) ps) (map settled_set h.stands.sets)) (sym h.fresh.places) h.stands.kept;
+  sets = map settled_set h.begins.sets;
+  kept = subst (λ (ps : List ℕ). m.kept ≡ map (kept_of (setup_of c) (contents_in (cells_of states) ps c.shape.ranks) ps) (map settled_set h.begins.sets)) (sym h.fresh.places) h.begins.kept;
   places_are = h.fresh.places;
-  of_site = λ i x at. let y = set_at h.stands.sets i x at in subst (λ (z : Cached). IsOfSite c.shape m.run z.manifest) y.is (h.stands.store.sets_are y.set (i, y.at));
-  rise = h.stands.store.rise;
-  index = h.stands.index;
-  cache = cache_left c.shape m.run c.places states (map settled_set h.stands.sets) None None (begun_facts c states m h);
+  of_site = λ i x at. let y = set_at h.begins.sets i x at in subst (λ (z : Cached). IsOfSite c.shape m.run z.manifest) y.is (h.begins.store.sets_are y.set (i, y.at));
+  rise = h.begins.store.rise;
+  index = h.begins.index;
+  cache = cache_left c.shape m.run c.places states (map settled_set h.begins.sets) None None (begun_facts c states m h);
 }
 stage_kept stage.Storing c states m at on h = record {
   sets = map settled_set h.sets;
@@ -437,14 +464,19 @@ stage_kept stage.Serving c states m at on h =
 stage_kept (stage.Saving w n) c states m at on h = let x = saving_now w n c states m at h in subst (λ (y : Machine). LeavesKept (setup_of c) c.places states y) (sym h.is) (loose_kept w n c x.0 states x.1)
 stage_kept (stage.Dropping d n) c states m at on h = leaving_kept _ _ c states m h.leaves
 stage_kept stage.Dropped c states m at on h = leaving_kept _ _ c states m h
-stage_kept stage.Stopped c states m at on h = absurd (cc on)
-stage_kept stage.Cut c states m at on h = absurd (cc on)
+stage_kept stage.Over c states m at on h = absurd (cc on)
 
 up_prefix : (c : Core) (states : ℕ → DeviceState) (m : Machine) → IsUp c states m → LeavesPrefix (states 32) m
 up_prefix c states m h = rest_prefix (states 32) m (λ q. h.quiet 32 q (omega arith) (λ lt pending. no_node c.shape lt)) (h.files.stored ∙ ap (λ (y : Machine). y.run) (sym h.is)) (h.files.halted ∙ ap (λ (y : Machine). y.halt) (sym h.is))
 
+up_unindexed : (c : Core) (states : ℕ → DeviceState) (m : Machine) → IsUp c states m → LeavesUnindexed (states 32)
+up_unindexed c states m h = rest_unindexed (states 32) (λ q other. h.quiet 32 q (omega arith) (λ lt pending. no_node c.shape lt)) h.files.unindexed
+
+leaving_unindexed : (gone settled : ℕ → Bool) (c : Core) (states : ℕ → DeviceState) (m : Machine) → IsLeavingAt gone settled c states m → LeavesUnindexed (states 32)
+leaving_unindexed gone settled c states m h = rest_unindexed (states 32) (λ q other. h.quiet 32 q (omega arith) (λ lt un of. no_node c.shape lt)) h.unindexed
+
 stage_prefix : (s : Stage) (c : Core) (states : ℕ → DeviceState) (m : Machine) → is_over s ≡ false → HoldsAt s c states m → LeavesPrefix (states 32) m
-stage_prefix stage.Begun c states m on h = rest_prefix (states 32) m (λ q. h.stands.quiet 32 q (omega arith)) h.stands.store.stored (sym h.stands.halt)
+stage_prefix stage.Begun c states m on h = rest_prefix (states 32) m (λ q. h.begins.quiet 32 q (omega arith)) h.begins.store.stored (sym h.begins.halt)
 stage_prefix stage.Storing c states m on h = storing_prefix c states m h (states 32) h.leaves (λ k lt o may. rest_leaves ((states 32).file (copy_name (codes "halt") k)) o (h.quiet 32 (copy_name (codes "halt") k) (omega arith) (λ is. no_number_file k)) may)
 stage_prefix stage.Looking c states m on h = rest_prefix (states 32) m (λ q. h.quiet 32 q (omega arith)) (h.store.stored ∙ ap (λ (y : Machine). y.run) (sym h.is)) (h.halted ∙ ap (λ (y : Machine). y.halt) (sym h.is))
 stage_prefix stage.Mending c states m on h = up_prefix c states m h
@@ -452,14 +484,13 @@ stage_prefix stage.Serving c states m on h = up_prefix c states m h
 stage_prefix (stage.Saving w n) c states m on h = up_prefix c states m h
 stage_prefix (stage.Dropping d n) c states m on h = leaving_prefix _ _ c states m h.leaves
 stage_prefix stage.Dropped c states m on h = leaving_prefix _ _ c states m h
-stage_prefix stage.Stopped c states m on h = absurd (cc on)
-stage_prefix stage.Cut c states m on h = absurd (cc on)
+stage_prefix stage.Over c states m on h = absurd (cc on)
 
 saving_later : (w : Work) (n : ℕ) (c : Core) (states : ℕ → DeviceState) (m : Machine) → c.stage ≡ stage.Saving w n → IsUp c states m → NoLater states c.run
 saving_later w n c states m at h = let x = saving_now w n c states m at h in none_later c.shape c.run c.places states c.kept c.opened (Some x.0) (saving_facts w n c x.0 states x.1)
 
 stage_later : (s : Stage) (c : Core) (states : ℕ → DeviceState) (m : Machine) → c.stage ≡ s → is_over s ≡ false → HoldsAt s c states m → NoLater states m.run
-stage_later stage.Begun c states m at on h = none_later c.shape m.run c.places states (map settled_set h.stands.sets) None None (begun_facts c states m h)
+stage_later stage.Begun c states m at on h = none_later c.shape m.run c.places states (map settled_set h.begins.sets) None None (begun_facts c states m h)
 stage_later stage.Storing c states m at on h = none_later c.shape m.run c.places states (map settled_set h.sets) None None (storing_facts c states m h)
 stage_later stage.Looking c states m at on h = subst (λ (run : ℕ). NoLater states run) (ap (λ (y : Machine). y.run) (sym h.is)) (none_later c.shape c.run c.places states (map settled_set h.sets) None None (looking_facts c states m h))
 stage_later stage.Mending c states m at on h =
@@ -471,11 +502,10 @@ stage_later stage.Serving c states m at on h =
 stage_later (stage.Saving w n) c states m at on h = subst (λ (run : ℕ). NoLater states run) (ap (λ (y : Machine). y.run) (sym h.is)) (saving_later w n c states m at h)
 stage_later (stage.Dropping d n) c states m at on h = subst (λ (run : ℕ). NoLater states run) (ap (λ (y : Machine). y.run) (sym h.leaves.is)) (none_later c.shape c.run c.places states c.kept c.opened (Some h.leaves.set) (leaving_facts _ _ c states m h.leaves))
 stage_later stage.Dropped c states m at on h = subst (λ (run : ℕ). NoLater states run) (ap (λ (y : Machine). y.run) (sym h.is)) (none_later c.shape c.run c.places states c.kept c.opened (Some h.set) (leaving_facts _ _ c states m h))
-stage_later stage.Stopped c states m at on h = absurd (cc on)
-stage_later stage.Cut c states m at on h = absurd (cc on)
+stage_later stage.Over c states m at on h = absurd (cc on)
 
 stage_plain : (s : Stage) (c : Core) (states : ℕ → DeviceState) (m : Machine) → is_over s ≡ false → HoldsAt s c states m → IsPlain m
-stage_plain stage.Begun c states m on h = record { mark = h.stands.mark_is; pending = ap pending_of h.stands.between }
+stage_plain stage.Begun c states m on h = record { mark = h.begins.mark_is; pending = ap pending_of h.begins.between }
 stage_plain stage.Storing c states m on h = record { mark = h.mark_is; pending = ap pending_of h.between }
 stage_plain stage.Looking c states m on h = record { mark = ap (λ (y : Machine). y.mark) h.is; pending = ap (λ (y : Machine). pending_of y.stage) h.is }
 stage_plain stage.Mending c states m on h = record { mark = ap (λ (y : Machine). y.mark) h.is; pending = ap (λ (y : Machine). pending_of y.stage) h.is }
@@ -483,11 +513,21 @@ stage_plain stage.Serving c states m on h = record { mark = ap (λ (y : Machine)
 stage_plain (stage.Saving w n) c states m on h = record { mark = ap (λ (y : Machine). y.mark) h.is; pending = ap (λ (y : Machine). pending_of y.stage) h.is }
 stage_plain (stage.Dropping d n) c states m on h = record { mark = ap (λ (y : Machine). y.mark) h.leaves.is; pending = ap (λ (y : Machine). pending_of y.stage) h.leaves.is }
 stage_plain stage.Dropped c states m on h = record { mark = ap (λ (y : Machine). y.mark) h.is; pending = ap (λ (y : Machine). pending_of y.stage) h.is }
-stage_plain stage.Stopped c states m on h = absurd (cc on)
-stage_plain stage.Cut c states m on h = absurd (cc on)
+stage_plain stage.Over c states m on h = absurd (cc on)
+
+stage_unindexed : (s : Stage) (c : Core) (states : ℕ → DeviceState) (m : Machine) → is_over s ≡ false → HoldsAt s c states m → LeavesUnindexed (states 32)
+stage_unindexed stage.Begun c states m on h = rest_unindexed (states 32) (λ q other. h.begins.quiet 32 q (omega arith)) h.begins.unindexed
+stage_unindexed stage.Storing c states m on h = rest_unindexed (states 32) (λ q other. h.quiet 32 q (omega arith) (λ is number. other number)) h.unindexed
+stage_unindexed stage.Looking c states m on h = rest_unindexed (states 32) (λ q other. h.quiet 32 q (omega arith)) h.unindexed
+stage_unindexed stage.Mending c states m on h = up_unindexed c states m h
+stage_unindexed stage.Serving c states m on h = up_unindexed c states m h
+stage_unindexed (stage.Saving w n) c states m on h = up_unindexed c states m h
+stage_unindexed (stage.Dropping d n) c states m on h = leaving_unindexed _ _ c states m h.leaves
+stage_unindexed stage.Dropped c states m on h = leaving_unindexed _ _ c states m h
+stage_unindexed stage.Over c states m on h = absurd (cc on)
 
 pub stage_left : (s : Stage) (c : Core) (states : ℕ → DeviceState) (m : Machine) → c.stage ≡ s → is_over s ≡ false → HoldsAt s c states m → IsLeft c states m
-stage_left s c states m at on h = record { leaves = stage_kept s c states m at on h; prefix = stage_prefix s c states m on h; later = stage_later s c states m at on h; plain = stage_plain s c states m on h }
+stage_left s c states m at on h = record { leaves = stage_kept s c states m at on h; prefix = stage_prefix s c states m on h; later = stage_later s c states m at on h; plain = stage_plain s c states m on h; unindexed = stage_unindexed s c states m on h }
 
 -- ## After a call that was refused
 
@@ -506,6 +546,7 @@ left_alike c place states after m done l = record {
   prefix = λ left out. l.prefix left (λ q. (alike_partly place states after done 32 q).outcomes (left q) (out q));
   later = later_on states after m.run (λ p q low. alike_partly place states after done p q) l.later;
   plain = l.plain;
+  unindexed = less_unindexed (states 32) (after 32) (λ q other. (alike_partly place states after done 32 q).outcomes) l.unindexed;
 }
 
 -- a step of the run's number was refused
@@ -516,6 +557,7 @@ left_unnumbered c states after m at h told done = record {
       rest_leaves ((states 32).file (copy_name (codes "halt") k)) o (h.quiet 32 (copy_name (codes "halt") k) (omega arith) (λ is. no_number_file k)) ((done.here.only.others (copy_name (codes "halt") k) (no_run_file k 0) (no_run_file k 1)).outcomes o may));
   later = later_on states after m.run (λ p q low. same_partly ((states p).file q) ((after p).file q) (ap (λ (d : DeviceState). d.file q) (done.others p (λ is. absurd (omega (arith, is, low)))))) (stage_later stage.Storing c states m at refl h);
   plain = stage_plain stage.Storing c states m refl h;
+  unindexed = less_unindexed (states 32) (after 32) (λ q other o may. (done.here.only.others q (λ is. other (inl is)) (λ is. other (inr is))).outcomes o may) (stage_unindexed stage.Storing c states m refl h);
 }
 
 -- a gate of the dataset that is being saved was refused

@@ -5,14 +5,14 @@ use Rattle.scr_base.specs.declared.content.Step.{Step}
 use Rattle.node_device.specs.DeviceState.{DeviceState}
 use Rattle.ckpt_model.specs.declared.event.Event.{Event}
 use Rattle.ckpt_model.specs.declared.event.Event.TheVariants as event
-use Rattle.ckpt_model.specs.Legal.{IsRunOf, IsOfProgram, AreOfPrograms}
-use Rattle.ckpt_model.specs.Legal.Place.{AtEnd}
-use Rattle.ckpt_model.specs.Machine.{Machine}
+use Rattle.ckpt_model.specs.Legal.{IsOfProgram, AreOfPrograms}
+use Rattle.ckpt_model.specs.Machine.{Machine, Setup}
 use Rattle.site_core.specs.declared.core_state.Core.{Core}
 use Rattle.site_core.specs.declared.core_state.Stage.{Stage}
 use Rattle.site_core.specs.declared.core_state.Stage.TheVariants as stage
 use Rattle.site_core.specs.Asking.{lengthened}
-use Rattle.site_core.specs.Holds.{IsSoFar, IsCutRun, ToldAt, Leads}
+use Rattle.site_core.specs.Shown.{setup_of}
+use Rattle.site_core.specs.Holds.{IsSoFar, ToldAt, ClosesAt, Leads}
 
 -- a step of the front is one of the whole
 front_step : (steps : List Step) (more : Step) (n : ℕ) (s : Step) → slice_get steps n ≡ Some s → slice_get (steps ++ more ∷ []) n ≡ Some s
@@ -40,12 +40,6 @@ module _ (places : List ℕ) (programs : List (List Step)) (rank : ℕ) (more : 
   still_so_far : IsSoFar places programs events → IsSoFar places (lengthened programs rank more) events
   still_so_far h = record { begin = h.begin; steps = still_of_programs programs rank more events h.steps; goes_on = h.goes_on }
 
-  still_run : IsRunOf places programs AtEnd events → IsRunOf places (lengthened programs rank more) AtEnd events
-  still_run h = record { begin = h.begin; stop = h.stop; steps = still_of_programs programs rank more events h.steps; place = h.place }
-
-  still_cut : IsCutRun places programs events → IsCutRun places (lengthened programs rank more) events
-  still_cut h = record { front = h.front; cause = h.cause; is = h.is; cut = h.cut; begin = h.begin; steps = still_of_programs programs rank more events h.steps; goes_on = h.goes_on }
-
   still_told : (s : Stage) → ToldAt s places programs events → ToldAt s places (lengthened programs rank more) events
   still_told stage.Begun told = told
   still_told stage.Storing told = told
@@ -55,8 +49,18 @@ module _ (places : List ℕ) (programs : List (List Step)) (rank : ℕ) (more : 
   still_told (stage.Saving w n) told = still_so_far told
   still_told (stage.Dropping d n) told = still_so_far told
   still_told stage.Dropped told = still_so_far told
-  still_told stage.Stopped told = still_run told
-  still_told stage.Cut told = still_cut told
+  still_told stage.Over told = told
+
+  still_closes : (s : Stage) (setup : Setup) (first : Machine) (states : ℕ → DeviceState) → ClosesAt s setup first places programs states events → ClosesAt s setup first places (lengthened programs rank more) states events
+  still_closes stage.Over setup first states h = record { front = h.front; why = h.why; is = h.is; before = h.before; run = h.run; safe = h.safe; well = h.well; begin = h.begin; steps = still_of_programs programs rank more events h.steps; goes_on = h.goes_on }
+  still_closes stage.Begun setup first states h = tt
+  still_closes stage.Storing setup first states h = tt
+  still_closes stage.Looking setup first states h = tt
+  still_closes stage.Mending setup first states h = tt
+  still_closes stage.Serving setup first states h = tt
+  still_closes (stage.Saving w n) setup first states h = tt
+  still_closes (stage.Dropping d n) setup first states h = tt
+  still_closes stage.Dropped setup first states h = tt
 
 -- the history leads to the site with a step more, as it led to it without
 pub still_leads : (first : Machine) (c : Core) (programs : List (List Step)) (rank : ℕ) (more : Step) (states : ℕ → DeviceState) (events : List Event)
@@ -66,5 +70,5 @@ still_leads first c programs rank more states events h = record {
   run = h.run;
   holds = h.holds;
   told = still_told c.places programs rank more events c.stage h.told;
-  left = h.left;
+  closes = still_closes c.places programs rank more events c.stage (setup_of c) first states h.closes;
 }

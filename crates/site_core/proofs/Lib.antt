@@ -60,3 +60,7 @@ pub mod Orders
 pub mod InOrder
 pub mod Accounts
 pub mod Carrying
+pub mod Closing
+pub mod RunsOut
+pub mod Faults
+pub mod Stands

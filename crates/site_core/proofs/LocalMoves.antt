@@ -107,6 +107,7 @@ module _ (first : Machine) (c : Core) (programs : List (List Step)) (states afte
 
   put_well : IsWell (with_open c (with_rows m rank rows) ranks)
   put_well = record {
+    single = h.well.single;
     places = h.well.places;
     rise = h.well.rise;
     below = h.well.below;
@@ -130,7 +131,7 @@ module _ (first : Machine) (c : Core) (programs : List (List Step)) (states afte
       pick (inr other) = subst (λ (rs : List FileRow). IsRows rs) (sym (get_or-set_other m.files rank k rows d other)) (of.files.rows k d (omega (arith, low, length-set m.files rank rows)))
 
     of_then : IsOfSite c.shape c.run (with_rows m rank rows)
-    of_then = record { named = of.named; nodes = of.nodes; ranks = of.ranks; files = record { ranks_are = length-set m.files rank rows ∙ of.files.ranks_are; rows = all_rows }; run_is = of.run_is }
+    of_then = record { named = of.named; nodes = of.nodes; ranks = of.ranks; files = record { ranks_are = length-set m.files rank rows ∙ of.files.ranks_are; rows = all_rows }; run_is = of.run_is; single = of.single }
 
     sets : (x : Manifest) → IsKnown (with_open c (with_rows m rank rows) ranks) x → IsOfSite c.shape c.run x
     sets x (inl is) = subst (λ (y : Manifest). IsOfSite c.shape c.run y) (some_one (with_rows m rank rows) x is) of_then

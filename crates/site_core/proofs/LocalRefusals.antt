@@ -79,7 +79,7 @@ module _ {D : Type 0} (state : D → DeviceState) (old new : Site D) (mid : Rack
 
     pub keeps_put : (file : ℕ) (spot : Spot) → old.core.phase ≡ phase.Output → IsSpot old.core rank file spot → file ≤ length (rows_at old.core rank) → OnlyAt spot.place (Refused (part_name spot.which spot.node spot.part)) (states_of state old.bay) (states_of state mid)
         → Keeps state old new
-    keeps_put file spot output at_spot within done tells first f = refused_so first (put_refused first old.core old.programs (states_of state old.bay) (states_of state mid) old.history.events new.history.events rank call r seat at next clear (told_faults t r told) may here is f file spot output at_spot within done)
+    keeps_put file spot output at_spot within done tells first base f = refused_so first (put_refused first old.core old.programs (states_of state old.bay) (states_of state mid) old.history.events new.history.events rank call r seat at next clear (told_faults t r told) may here is f file spot output at_spot within done)
 
     pub keeps_get : (place : ℕ) → OnlyAt place KeptAlike (states_of state old.bay) (states_of state mid) → Keeps state old new
-    keeps_get place done tells first f = refused_so first (get_refused first old.core old.programs (states_of state old.bay) (states_of state mid) old.history.events new.history.events rank call r seat at next clear (told_faults t r told) may here is f place done)
+    keeps_get place done tells first base f = refused_so first (get_refused first old.core old.programs (states_of state old.bay) (states_of state mid) old.history.events new.history.events rank call r seat at next clear (told_faults t r told) may here is f place done)

@@ -43,7 +43,7 @@ use Rattle.site_core.specs.declared.core_state.Stage.TheVariants as stage
 use Rattle.site_core.specs.declared.core_moves.Spot.{Spot}
 use Rattle.site_core.specs.Shown.{Contents, running, setup_of, mends, served}
 use Rattle.site_core.specs.Choosing.{local_verdict_of, rows_at, rows_in, at_hand, hand_in, set_in}
-use Rattle.site_core.specs.Calls.{Same, Written, Tells, TellsAll}
+use Rattle.site_core.specs.Calls.{Same, Written, Tells}
 use Rattle.site_core.specs.Cores.{IsSpot, with_rows, with_open}
 use Rattle.site_core.specs.Steps.{IsNextLocal}
 use Rattle.site_core.specs.Stored.{cells_of, contents_of, place_of_rank, file_name, FileStands, IsAmong, IsKnown}
@@ -56,19 +56,6 @@ use Rattle.site_core.proofs.LocalMoves.{routed_new, wrote, IsNextStep}
 use Rattle.site_core.proofs.LocalCalls.{clear_write, clear_read, clear_route, clear_new, routed_there, routed_rows, extended_rows, place_there, place_new, read_within}
 
 -- ## Devices and names
-
-told_at : {D : Type 0} (state : D → DeviceState) → TellsAll state → (nodes : List D) (p : ℕ) → (slice_index_or (map state nodes) p nowhere).tells ≡ true
-told_at state tells [] p = refl
-told_at state tells (d ∷ nodes) zero = tells d
-told_at state tells (d ∷ nodes) (suc p) = told_at state tells nodes p
-
--- where every device tells its contents, each place does
-pub each_tells : {D : Type 0} (state : D → DeviceState) (rack : Rack D) → TellsAll state → (p : ℕ) → (states_of state rack p).tells ≡ true
-unfolding states_of
-each_tells state rack tells p = pick (p == 32) where
-  pick : (b : Bool) → (if b then state rack.prefix else slice_index_or (map state rack.nodes) p nowhere).tells ≡ true
-  pick true = tells rack.prefix
-  pick false = told_at state tells rack.nodes p
 
 dot : (x y : List ℕ) → x ++ codes "." ++ y ≡ x ++ 46 ∷ y
 dot x y = append_assoc x (codes ".") y

@@ -1,5 +1,5 @@
 -- A run takes its number, and the number comes to the prefix.
-use Rattle.std.proofs.Common.{◌≡◌, inl, inr, ℕ, ◌+◌, ◌<◌, ◌^◌, true, false, List, [], ◌∷◌, ◌++◌, map, Option, Some, None, refl, sym, ap, ap₂, ◌∙◌, subst, arith, codes}
+use Rattle.std.proofs.Common.{◌≡◌, inl, inr, ℕ, ◌+◌, ◌<◌, ◌^◌, List, [], map, Option, Some, None, refl, sym, ap, ap₂, ◌∙◌, subst, arith, codes}
 use Rattle.std.proofs.lemmas.Bool.Decides.{nat_tests}
 use Rattle.scr_base.specs.declared.content.Step.{Step}
 use Rattle.node_device.specs.DeviceState.{DeviceState}
@@ -7,13 +7,7 @@ use Rattle.node_device.specs.Outcomes.{rest_leaves}
 use Rattle.gated_record.specs.Pair.{value_in, newer, copy_name, pair_value, MayFollow, next_version}
 use Rattle.gated_record.specs.declared.pair.PairValue.{PairValue}
 use Rattle.ckpt_model.specs.declared.event.Event.{Event}
-use Rattle.ckpt_model.specs.declared.event.Event.TheVariants as event
-use Rattle.ckpt_model.specs.declared.event.StopCause.TheVariants as cause
-use Rattle.ckpt_model.specs.Machine.{Machine, Setup, Stage as Place}
-use Rattle.ckpt_model.specs.Legal.{IsRunOf}
-use Rattle.ckpt_model.specs.Legal.Place.{AtEnd}
-use Rattle.ckpt_model.specs.Runs.{StepsTo}
-use Rattle.ckpt_model.proofs.RunLemmas.{run_on}
+use Rattle.ckpt_model.specs.Machine.{Machine, Setup}
 use Rattle.halt_file.specs.Conditions.{conditions}
 use Rattle.halt_file.specs.declared.halt.Halt.{Halt}
 use Rattle.site_core.specs.declared.core_state.Core.{Core}
@@ -24,10 +18,10 @@ use Rattle.site_core.specs.Shown.{setup_of, kept_of}
 use Rattle.site_core.specs.Stored.{cells_of, contents_in, stored_run, stored_halt, run_number, FilesStand, RecordsStand, NoOtherRecords}
 use Rattle.site_core.specs.Holds.{HoldsAt, ToldAt, Leads, IsOneOf, settled_set, IsBegun, IsStoring}
 
-begun_at : (s : Stage) (c : Core) (states : ℕ → DeviceState) (m : Machine) → s ≡ stage.Begun → HoldsAt s c states m → IsBegun c states m
+pub begun_at : (s : Stage) (c : Core) (states : ℕ → DeviceState) (m : Machine) → s ≡ stage.Begun → HoldsAt s c states m → IsBegun c states m
 begun_at s c states m e h = subst (λ (x : Stage). HoldsAt x c states m) e h
 
-told_begun : (s : Stage) (places : List ℕ) (programs : List (List Step)) (events : List Event) → s ≡ stage.Begun → ToldAt s places programs events → events ≡ []
+pub told_begun : (s : Stage) (places : List ℕ) (programs : List (List Step)) (events : List Event) → s ≡ stage.Begun → ToldAt s places programs events → events ≡ []
 told_begun s places programs events e h = subst (λ (x : Stage). ToldAt x places programs events) e h
 
 pub storing_at : (s : Stage) (c : Core) (states : ℕ → DeviceState) (m : Machine) → s ≡ stage.Storing → HoldsAt s c states m → IsStoring c states m
@@ -55,14 +49,14 @@ numbered first c programs states events n halt at fits is told leads =
     let m = leads.state in
     let b = begun_at c.stage c states m at leads.holds in
     let fresh = b.fresh in
-    let h = b.stands in
+    let h = b.begins in
     let old = pair_value (codes "run") (cells_of states 32) in
     let want : PairValue = record { version = n + 1; body = [] } in
     record {
       state = m;
       run = leads.run;
       holds = record {
-        fresh = record { places = fresh.places; phase_is = fresh.phase_is; offer = fresh.offer; opened = fresh.opened; ranks = fresh.ranks; settled = fresh.settled; needs = fresh.needs; reading = fresh.reading };
+        fresh = record { single = fresh.single; places = fresh.places; phase_is = fresh.phase_is; offer = fresh.offer; opened = fresh.opened; ranks = fresh.ranks; settled = fresh.settled; needs = fresh.needs; reading = fresh.reading };
         sets = h.sets;
         old = old;
         old_is = h.store.stored;
@@ -87,35 +81,11 @@ numbered first c programs states events n halt at fits is told leads =
         index = h.index;
         halt = h.halt ∙ sym told;
         halted = sym told;
+        unindexed = h.unindexed;
         mark_is = h.mark_is;
         run = ap (λ (k : ℕ). k + 1) (is ∙ h.store.stored);
         fits = fits;
       };
       told = told_begun c.stage c.places programs events at leads.told;
-      left = tt;
-    }
-
--- ## There is no number left
-
--- the state after a stop that decided nothing
-abbrev halted : Machine → Machine
-halted m = record m { stage = Place.Between; open_dataset = None; fetching = None; flushing = None; index = []; halt = m.halt; mark = m.mark }
-
-runs_out : (s : Setup) (m : Machine) → m.stage ≡ Place.Between → m.index ≡ [] → m.run ≡ 4294967295 → StepsTo s m (event.Stop cause.Runs) (halted m)
-runs_out s m at none is = (record { made = []; entries = []; took = true; stored = false }, rw (at, is) refl, rw (at, none) refl)
-
-pub numbers_over : (first : Machine) (c : Core) (programs : List (List Step)) (states : ℕ → DeviceState) (events events' : List Event) → c.stage ≡ stage.Begun → stored_run (cells_of states) ≡ 4294967295
-    → events' ≡ events ++ event.Stop cause.Runs ∷ [] → Leads first c programs states events → Leads first (record c { stage = stage.Stopped }) programs states events'
-numbers_over first c programs states events events' at last more leads =
-    let m = leads.state in
-    let b = begun_at c.stage c states m at leads.holds in
-    let h = b.stands in
-    let none = told_begun c.stage c.places programs events at leads.told in
-    let alone : events' ≡ event.Stop cause.Runs ∷ [] = more ∙ ap (λ (es : List Event). es ++ event.Stop cause.Runs ∷ []) none in
-    record {
-      state = halted m;
-      run = run_on (setup_of c) first m (halted m) events events' (event.Stop cause.Runs) more leads.run (runs_out (setup_of c) m h.between h.index (sym h.store.stored ∙ last));
-      holds = inl (record { sets = h.sets; quiet = h.quiet; store = h.store; between = refl; kept = h.kept; index = refl; halt = h.halt; mark_is = h.mark_is });
-      told = subst (λ (es : List Event). IsRunOf c.places programs AtEnd es) (sym alone) (record { begin = refl; stop = refl; steps = (tt, tt); place = refl });
-      left = tt;
+      closes = tt;
     }

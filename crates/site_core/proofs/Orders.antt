@@ -215,5 +215,4 @@ goes_on c programs many on told flushed ends order = pick c.stage refl on where
   pick (stage.Saving work node) at on = record { who = actor.Encoder; one = tt; moves = ap (λ (s : Stage). encoder_turn s c) at }
   pick (stage.Dropping drop node) at on = record { who = actor.Evictor; one = tt; moves = ap (λ (s : Stage). evictor_turn s c) at }
   pick stage.Dropped at on = record { who = actor.Rank 0; one = omega (arith, many); moves = ap (λ (s : Stage). rank_turn s c programs 0) at }
-  pick stage.Stopped at on = absurd (cc on)
-  pick stage.Cut at on = absurd (cc on)
+  pick stage.Over at on = absurd (cc on)

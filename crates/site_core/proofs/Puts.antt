@@ -21,7 +21,7 @@ use Rattle.site_core.specs.Cores.{with_rows, with_open}
 use Rattle.site_core.specs.declared.core_state.Core.{Core}
 use Rattle.site_core.specs.Choosing.{AreBelow}
 use Rattle.site_core.specs.Stored.{Cells, cells_of, place_of_rank, file_name, FilesStand, FileStands, RecordIs, IsAmong, IsKnown, IsFuture, NoMoreFiles, IsWell, IsOfSite, FilesHold, ChangesFile}
-use Rattle.site_core.proofs.Halts.{halt_same}
+use Rattle.site_core.proofs.Halts.{halt_same, unindexed_same}
 use Rattle.site_core.proofs.Frames.{IsNamed, is_place, AreFilesSame, other_file, every_record, records_stay, future_stays, prefix_stays, stored_stays}
 
 -- ## A device's file
@@ -182,6 +182,7 @@ module _ (c : Core) (m : Manifest) (rank j : ℕ) (rows : List FileRow) (bytes :
   put_holds = record {
     stored = stored_stays old new c.places c.shape.ranks (place_of_rank c.places c.shape.ranks rank) m.desc.which rank j is_named_one change place_low ∙ f.stored;
     halted = halt_same old new (prefix_stays old new c.places c.shape.ranks (place_of_rank c.places c.shape.ranks rank) m.desc.which rank j is_named_one change place_low) ∙ f.halted;
+    unindexed = unindexed_same old new (prefix_stays old new c.places c.shape.ranks (place_of_rank c.places c.shape.ranks rank) m.desc.which rank j is_named_one change place_low) f.unindexed;
     files = put_files;
     records = λ i x at sealed node p home.
         let of = w.sets x.manifest (inr (i, x, at, refl)) in

@@ -21,7 +21,7 @@ use Rattle.site_core.specs.declared.core_state.Core.{Core}
 use Rattle.site_core.specs.Choosing.{is_being_sealed}
 use Rattle.site_core.specs.Calls.{Synced}
 use Rattle.site_core.specs.Stored.{Cells, cells_of, contents_in, contents_of, is_named, place_of_rank, file_name, FilesStand, FileStands, RecordIs, IsAmong, IsKnown, NoOtherRecords, NoFutureFiles, NoMoreFiles, IsWell, IsOfSite, FilesHold, stored_run, ChangesFile}
-use Rattle.site_core.proofs.Halts.{halt_same}
+use Rattle.site_core.proofs.Halts.{halt_same, unindexed_same}
 use Rattle.site_core.proofs.Names.{records-same, part_no_record}
 use Rattle.site_core.proofs.Frames.{IsNamed, named, is_place, data-same, file_no_record}
 use Rattle.site_core.proofs.Puts.{row_named, row_rank, few_rows, few_nodes}
@@ -99,6 +99,7 @@ module _ (c : Core) (m : Manifest) (node place : ℕ) (old new : Cells) (w : IsW
   record_holds = record {
     stored = ap (λ (g : List ℕ → Option (List ℕ)). Rattle.site_core.specs.Stored.run_number (Rattle.gated_record.specs.Pair.pair_value (codes "run") g)) prefix_same ∙ f.stored;
     halted = halt_same old new prefix_same ∙ f.halted;
+    unindexed = unindexed_same old new prefix_same f.unindexed;
     files = λ x is rank j row at.
         let of = w.sets x is in
         let rlt = row_rank x.files rank j row at in

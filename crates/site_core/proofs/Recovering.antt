@@ -24,7 +24,7 @@ use Rattle.site_core.specs.declared.core_state.Stage.TheVariants as stage
 use Rattle.site_core.specs.Shown.{Contents, running, begun, setup_of, kept_of, come_to, settled_if, mends, row_of, greatest_id, rank_of}
 use Rattle.site_core.specs.Choosing.{AscendFrom, AreBelow, seals}
 use Rattle.site_core.specs.Stored.{cells_of, contents_of, FilesStand, RecordsStand, IsKnown, NoOtherRecords, IsFuture}
-use Rattle.site_core.specs.Holds.{Leads, StoreHolds, StandsFor, IsOneOf, settled_set, IsFresh, IsLooking, IsQuiet, IsUp, IsPending, IsSoFar, WorkIs, NoRecordYet}
+use Rattle.site_core.specs.Holds.{Leads, StoreHolds, IsOneOf, settled_set, IsFresh, IsLooking, IsQuiet, IsUp, IsPending, IsSoFar, WorkIs, NoRecordYet}
 use Rattle.site_core.proofs.Told.{is_up, led, leads_up, tells_more}
 use Rattle.site_core.proofs.Finds.{finds}
 use Rattle.site_core.proofs.Seals.{mended}
@@ -128,6 +128,7 @@ found first c programs states events events' sets h at are some more =
       run = run_on (setup_of c) first h.state (running bytes d) events events' (event.Found (map row_of (map settled_set sets)) []) more h.run step;
       so_far = tells_more c.places programs events events' (event.Found (map row_of (map settled_set sets)) []) more (told_looking c.stage c.places programs events at h.told) tt refl;
       well = record {
+        single = fresh.single;
         places = fresh.places;
         rise = ascend-found 1 sets store.rise;
         below = below-greatest sets 0 (greatest_id (map settled_set sets)) (omega arith);
@@ -141,6 +142,7 @@ found first c programs states events events' sets h at are some more =
       files = record {
         stored = store.stored;
         halted = look.halted;
+        unindexed = look.unindexed;
         files = λ m known. subst (λ (ps : List ℕ). FilesStand (cells_of states) ps c.shape.ranks m) (sym fresh.places) (store.files m (known_found c sets m fresh.opened known));
         records = λ i x is sealed. records_at fresh store i x is;
         others = subst (λ (ps : List ℕ). NoOtherRecords (IsKnown d) (cells_of states) ps) (sym fresh.places)
@@ -180,6 +182,7 @@ mends_one first c programs states events events' x at next leads more =
       run = run_on (setup_of c) first (running bytes c) (running bytes d) events events' (event.Mended which) more h.run (mended c bytes x next (lower c.kept h.well.rise));
       so_far = tells_more c.places programs events events' (event.Mended which) more h.so_far tt refl;
       well = record {
+        single = h.well.single;
         places = h.well.places;
         rise = ascend-settled which 1 c.kept h.well.rise;
         below = below-settled which c.next c.kept h.well.below;
@@ -193,6 +196,7 @@ mends_one first c programs states events events' x at next leads more =
       files = record {
         stored = h.files.stored;
         halted = h.files.halted;
+        unindexed = h.files.unindexed;
         files = λ y known. h.files.files y (known_before which closed y known);
         records = λ i y is sealed. let z = settled-at which c.kept i y is in
             subst (λ (m : Manifest). RecordsStand (cells_of states) c.places m) (sym (settled-manifest which z.0) ∙ ap (λ (w : Cached). w.manifest) z.2) (h.files.records i z.0 z.1 (none-passes seals c.kept i z.0 working.1 z.1));
@@ -234,8 +238,8 @@ serves_now first c programs states events at none leads =
     leads_up first d programs states events refl (record {
       run = h.run;
       so_far = h.so_far;
-      well = record { places = h.well.places; rise = h.well.rise; below = h.well.below; sets = h.well.sets; opened_run = h.well.opened_run; opened_below = h.well.opened_below; opened_last = h.well.opened_last; output = h.well.output; ranks = h.well.ranks };
-      files = record { stored = h.files.stored; halted = h.files.halted; files = h.files.files; records = h.files.records; others = h.files.others; future = h.files.future; fresh = h.files.fresh };
+      well = record { single = h.well.single; places = h.well.places; rise = h.well.rise; below = h.well.below; sets = h.well.sets; opened_run = h.well.opened_run; opened_below = h.well.opened_below; opened_last = h.well.opened_last; output = h.well.output; ranks = h.well.ranks };
+      files = record { stored = h.files.stored; halted = h.files.halted; unindexed = h.files.unindexed; files = h.files.files; records = h.files.records; others = h.files.others; future = h.files.future; fresh = h.files.fresh };
       quiet = quiet;
       unrecorded = λ m e. absurd (cc (working.0, e));
       working = (none, working.1);

@@ -1,5 +1,5 @@
 -- What a refused call, and one step of a removal, does to one device.
-use Rattle.std.proofs.Common.{◌≡◌, ◌≤◌, ℕ, Bool, true, false, List, length, Option, Some, None, Ok, Err, refl, sym, ap, ◌∙◌, subst, arith}
+use Rattle.std.proofs.Common.{inl, inr, ◌≡◌, ◌≤◌, ℕ, Bool, true, false, List, length, Option, Some, None, Ok, Err, refl, sym, ap, ◌∙◌, subst, arith}
 use Rattle.scr_base.specs.declared.change.Change.{Change}
 use Rattle.scr_base.specs.declared.shape.DataId.{DataId}
 use Rattle.node_device.specs.File.{File, IsAtRest, IsKept, IsPartlySynced, MayLeave, bytes_of}
@@ -8,7 +8,7 @@ use Rattle.node_device.specs.Calls.{Syncs}
 use Rattle.node_device.specs.declared.device.DevError.{DevError}
 use Rattle.node_device.specs.declared.device.DevError.TheVariants as device
 use Rattle.node_device.specs.Outcomes.{rest_leaves}
-use Rattle.member_store.specs.Calls.{Drops}
+use Rattle.member_store.specs.Calls.{Drops, RemovesAtMost}
 use Rattle.gated_record.specs.Calls.{WritesBody, TurnsGate}
 use Rattle.site_core.specs.Calls.{Refused, Unrecorded, Unturned, KeptAlike, FileDropped}
 use Rattle.site_core.specs.Removals.{Leaving}
@@ -29,6 +29,9 @@ same_alike old new same = record {
   names = ap (λ (d : DeviceState). d.names) same;
   files = λ q. subst (λ (f : File). IsKept (old.file q) f) (sym (ap (λ (d : DeviceState). d.file q) same)) (record { len = refl; now = refl; fluid = λ e. e; greatest = omega arith });
 }
+
+pub unchanged_tells : (old new : DeviceState) → IsUnchanged old new → new.tells ≡ old.tells
+unchanged_tells old new same = ap (λ (d : DeviceState). d.tells) same
 
 -- of the same file a stop leaves no more
 pub same_partly : (f g : File) → g ≡ f → IsPartlySynced f g
@@ -84,6 +87,10 @@ sync_refused old new error sound w = record {
 
 pub file_dropped : (which : DataId) (node : ℕ) (over : Bool) (before after : Option (List Change)) (old new : DeviceState) → Drops which node (Ok over) before after old new → FileDropped which node over before after old new
 file_dropped which node over before after old new w = record { at_most = w.at_most; none_left = w.none_left; goes = w.goes; fewer = w.fewer }
+
+pub dropped_tells : (which : DataId) (node : ℕ) (old new : DeviceState) → RemovesAtMost which node old new → new.tells ≡ old.tells
+dropped_tells which node old new (inl one) = one.1.only.tells
+dropped_tells which node old new (inr same) = unchanged_tells old new same
 
 -- no step of a removal finds the device full
 pub drop_refused : (place : ℕ) (which : DataId) (node : ℕ) (before after : Option (List Change)) (old new : DeviceState) (error : DevError) → Drops which node (Err error) before after old new → RefusedFor IsNoWrite place error old new

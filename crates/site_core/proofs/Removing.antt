@@ -35,8 +35,8 @@ use Rattle.site_core.specs.Choosing.{seals, is_being_sealed}
 use Rattle.site_core.specs.Cores.{dropping_core, next_drop_core}
 use Rattle.site_core.specs.Removals.{Leaving, leaving}
 use Rattle.site_core.specs.Shown.{running, setup_of, set_of, mends}
-use Rattle.site_core.specs.Stored.{Cells, cells_of, contents_of, IsAmong, IsKnown, IsWell, FilesHold}
-use Rattle.site_core.specs.Holds.{HoldsAt, ToldAt, LeftAt, Leads, IsSoFar, IsPending, NoRecordYet, WorkIs, IsSaving, IsSaved, IsDropRound, IsDropCause, IsDropFor, IsOfDataset, IsLeavingAt, IsDropping, IsDropped, RemovalIs, is_gone_at}
+use Rattle.site_core.specs.Stored.{Cells, cells_of, contents_of, IsAmong, IsKnown, IsWell, FilesHold, IsUnindexed}
+use Rattle.site_core.specs.Holds.{HoldsAt, ToldAt, ClosesAt, Leads, IsSoFar, IsPending, NoRecordYet, WorkIs, IsSaving, IsSaved, IsDropRound, IsDropCause, IsDropFor, IsOfDataset, IsLeavingAt, IsDropping, IsDropped, RemovalIs, is_gone_at}
 use Rattle.site_core.proofs.Told.{is_up, led}
 use Rattle.site_core.proofs.Puts.{few_nodes, kept_other}
 use Rattle.site_core.proofs.Refusals.{cells_alike, refused_rest, alike_rest}
@@ -49,7 +49,7 @@ use Rattle.site_core.proofs.LeftFiles.{none_shut, none_sealed, none_sealed_on, n
 use Rattle.site_core.proofs.RecordFiles.{alike_cells, synced_rest, node_small}
 use Rattle.site_core.proofs.Saving.{place_of_node}
 use Rattle.site_core.proofs.SaveEnds.{none-passes, none-if}
-use Rattle.site_core.proofs.Halts.{halt_same}
+use Rattle.site_core.proofs.Halts.{halt_same, unindexed_same}
 use Rattle.site_core.proofs.Losses.{Loses, loses, others_rest, kept_stand, records_kept, others_gone, future_gone, prefix_same, stored_same, kept_same, file_of}
 
 -- ## A core at another stage of the removal
@@ -58,7 +58,7 @@ abbrev pub going : Core → Stage → Leaving → Core
 going c s r = record c { stage = s; removal = r }
 
 going_well : (c : Core) (s : Stage) (r : Leaving) → IsWell c → IsWell (going c s r)
-going_well c s r w = record { places = w.places; rise = w.rise; below = w.below; sets = w.sets; opened_run = w.opened_run; opened_below = w.opened_below; opened_last = w.opened_last; output = w.output; ranks = w.ranks }
+going_well c s r w = record { single = w.single; places = w.places; rise = w.rise; below = w.below; sets = w.sets; opened_run = w.opened_run; opened_below = w.opened_below; opened_last = w.opened_last; output = w.output; ranks = w.ranks }
 
 going_for : (c : Core) (s : Stage) (r : Leaving) → IsDropFor c → IsDropFor (going c s r)
 going_for c s r d = record { complete = d.complete; valid = d.valid; first = d.first; clear = d.clear; why = d.why }
@@ -124,9 +124,10 @@ begins_by first c programs states events m which refusal is h run so_far =
           dataset = set_of (setup_of c) bytes m;
           is = ap (λ (o : Option Manifest). record now { open_dataset = option_map (set_of (setup_of c) bytes) o }) h.opened;
           round = record { complete = h.complete; valid = h.valid; first = h.first; clear = h.clear; why = h.why };
-          well = record { places = h.well.places; rise = h.well.rise; below = h.well.below; sets = h.well.sets; opened_run = h.well.opened_run; opened_below = h.well.opened_below; opened_last = h.well.opened_last; output = h.well.output; ranks = h.well.ranks };
+          well = record { single = h.well.single; places = h.well.places; rise = h.well.rise; below = h.well.below; sets = h.well.sets; opened_run = h.well.opened_run; opened_below = h.well.opened_below; opened_last = h.well.opened_last; output = h.well.output; ranks = h.well.ranks };
           stored = h.files.stored;
           halted = h.files.halted;
+          unindexed = h.files.unindexed;
           files = λ x among. h.files.files x (inr among);
           records = λ i x at. h.files.records i x at (none-passes seals c.kept i x h.sealed at);
           others = h.files.others;
@@ -142,7 +143,7 @@ begins_by first c programs states events m which refusal is h run so_far =
         work = (refl, tt);
       };
       told = so_far;
-      left = tt;
+      closes = tt;
     }
 
 -- the ranks ask for the removal
@@ -272,6 +273,7 @@ module _ (c : Core) (states after : ℕ → DeviceState) (m : Machine) (gone set
     well = going_well c s r h.well;
     stored = stored_same c h.set n n (cells_of states) (cells_of after) h.well h.opened small low_place loss ∙ h.stored;
     halted = halt_same (cells_of states) (cells_of after) (prefix_same c h.set n n (cells_of states) (cells_of after) h.well h.opened small low_place loss) ∙ h.halted;
+    unindexed = unindexed_same (cells_of states) (cells_of after) (prefix_same c h.set n n (cells_of states) (cells_of after) h.well h.opened small low_place loss) h.unindexed;
     files = λ x among. kept_stand c h.set n n (cells_of states) (cells_of after) h.well h.opened small low_place loss x among (h.files x among);
     records = λ i x at. records_kept c h.set n n (cells_of states) (cells_of after) h.well h.opened small low_place loss x.manifest (i, x, at, refl) (h.records i x at);
     others = others_gone c h.set n n (cells_of states) (cells_of after) h.well h.opened small low_place loss (IsKnown c) h.others;
@@ -321,7 +323,7 @@ module _ (first : Machine) (c : Core) (programs : List (List Step)) (states afte
         run = leads.run;
         holds = subst (λ (s : Stage). HoldsAt s d after leads.state) (sym at) holds;
         told = leads.told;
-        left = subst (λ (s : Stage). LeftAt s (setup_of c) first c.places after events) (sym at) tt;
+        closes = subst (λ (s : Stage). ClosesAt s (setup_of c) first c.places programs after events) (sym at) tt;
       }
 
   -- it was the last
@@ -337,7 +339,7 @@ module _ (first : Machine) (c : Core) (programs : List (List Step)) (states afte
       work = tt;
     };
     told = so_far;
-    left = tt;
+    closes = tt;
   } where
     none : HasNoFile which n (after n)
     none = (here.here.none_left dropping.work.1).0 is_over
@@ -369,6 +371,7 @@ module _ (c : Core) (states after : ℕ → DeviceState) (m : Machine) (gone set
         well = going_well c s r h.well;
         stored = ap (λ (cells : Cells). Rattle.site_core.specs.Stored.stored_run cells) same ∙ h.stored;
         halted = ap (λ (cells : Cells). Rattle.site_core.specs.Stored.stored_halt cells) same ∙ h.halted;
+        unindexed = subst (λ (cells : Cells). IsUnindexed (cells 32)) (sym same) h.unindexed;
         files = subst (λ (cells : Cells). (x : Manifest) → IsAmong c.kept x → Rattle.site_core.specs.Stored.FilesStand cells c.places c.shape.ranks x) (sym same) h.files;
         records = subst (λ (cells : Cells). (i : ℕ) (x : Cached) → slice_get c.kept i ≡ Some x → Rattle.site_core.specs.Stored.RecordsStand cells c.places x.manifest) (sym same) h.records;
         others = subst (λ (cells : Cells). Rattle.site_core.specs.Stored.NoOtherRecords (IsKnown c) cells c.places) (sym same) h.others;
@@ -422,7 +425,7 @@ module _ (first : Machine) (c : Core) (programs : List (List Step)) (states afte
       work = (refl, tt);
     };
     told = (dropping_at first c programs states events drop.Sync n at leads).1;
-    left = tt;
+    closes = tt;
   }
 
   all_gone : n + 1 ≡ c.shape.nodes → Leads first (record c { stage = stage.Dropped }) programs after events
@@ -431,7 +434,7 @@ module _ (first : Machine) (c : Core) (programs : List (List Step)) (states afte
     run = leads.run;
     holds = leaves_synced c states after leads.state (is_gone_at drop.Sync n) (λ node. nat_lt node n) syncing.leaves n synced_here stage.Dropped c.removal (λ node. true) (λ node. true) (λ node lt is. up_to_last node n c.shape.nodes lt last) (λ p lt other un. absurd (none_after p n c.shape.nodes lt other un last));
     told = (dropping_at first c programs states events drop.Sync n at leads).1;
-    left = tt;
+    closes = tt;
   }
 
   pub removal_synced : Leads first (if nat_lt n (c.shape.nodes - 1) then next_drop_core c (n + 1) else record c { stage = stage.Dropped }) programs after events

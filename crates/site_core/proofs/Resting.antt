@@ -1,4 +1,4 @@
--- A run begins over devices that stand, and devices that stand do so after a stop.
+-- A run begins over devices that let it, and devices that let it do so after a stop.
 use Rattle.std.proofs.Common.{◌≡◌, inl, inr, ℕ, ◌+◌, ◌*◌, ◌<◌, ◌≤◌, true, List, [], map, replicate, Option, refl, sym, ap, ap₂, ◌∙◌, subst, arith, codes}
 use Rattle.std.proofs.Math.Path.{fun_ext}
 use Rattle.scr_base.specs.Sets.{numbers_below}
@@ -13,22 +13,23 @@ use Rattle.ckpt_model.specs.declared.event.Event.{Event}
 use Rattle.ckpt_model.specs.Machine.{Machine, Setup}
 use Rattle.ckpt_model.specs.Runs.{RunsTo}
 use Rattle.round_core.specs.Seats.{fresh_seat}
+use Rattle.site_stands.specs.Described.{is_single}
 use Rattle.site_core.specs.declared.core_state.Core.{Core}
 use Rattle.site_core.specs.declared.core_state.Stage.{Stage}
 use Rattle.site_core.specs.Cores.{IsNewCore}
 use Rattle.site_core.specs.Shown.{Contents, setup_of, kept_of}
 use Rattle.site_core.specs.Stored.{cells_of, run_number}
-use Rattle.site_core.specs.Holds.{HoldsAt, ToldAt, LeftAt, Leads, StandsFor, HasRest, IsOneOf, settled_set, IsBegun}
-use Rattle.site_core.proofs.Halts.{halt_same}
+use Rattle.site_core.specs.Holds.{HoldsAt, ToldAt, ClosesAt, Leads, CanBegin, IsOneOf, settled_set, IsBegun}
+use Rattle.site_core.proofs.Halts.{halt_same, unindexed_same}
 use Rattle.site_core.proofs.Stored.{others_after, future_after, contents_after, files_after, records_after}
-use Rattle.site_core.proofs.Ending.{crashed}
 
 pub begun_leads : (first : Machine) (shape : Shape) (config : Config) (c : Core) (programs : List (List Step)) (states : ℕ → DeviceState) (events : List Event) → IsNewCore shape config c → events ≡ []
-    → StandsFor (record { shape = shape; config = config }) states first → Leads first c programs states events
-begun_leads first shape config c programs states events new none stands =
+    → CanBegin (record { shape = shape; config = config }) states first → Leads first c programs states events
+begun_leads first shape config c programs states events new none begins =
     let same : setup_of c ≡ record { shape = shape; config = config } = ap₂ (λ (s : Shape) (f : Config). let x : Setup = record { shape = s; config = f } in x) new.shape_is new.config_is in
     let begun : IsBegun c states first = record {
       fresh = record {
+        single = ap (λ (f : Config). is_single f.scheme) new.config_is ∙ begins.single;
         places = new.places ∙ ap (λ (s : Shape). numbers_below s.nodes) (sym new.shape_is);
         phase_is = new.phase_is;
         offer = new.offer;
@@ -38,24 +39,24 @@ begun_leads first shape config c programs states events new none stands =
         needs = new.needs;
         reading = new.reading;
       };
-      stands = subst (λ (s : Setup). StandsFor s states first) (sym same) stands;
+      begins = subst (λ (s : Setup). CanBegin s states first) (sym same) begins;
     } in
     record {
       state = first;
       run = subst (λ (es : List Event). RunsTo (setup_of c) first es first) (sym none) refl;
       holds = subst (λ (s : Stage). HoldsAt s c states first) (sym new.stage_is) begun;
       told = subst (λ (s : Stage). ToldAt s c.places programs events) (sym new.stage_is) none;
-      left = subst (λ (s : Stage). LeftAt s (setup_of c) first c.places states events) (sym new.stage_is) tt;
+      closes = subst (λ (s : Stage). ClosesAt s (setup_of c) first c.places programs states events) (sym new.stage_is) tt;
     }
 
 module _ (s : Setup) (states after : ℕ → DeviceState) (m : Machine) (crash : (p : ℕ) → p ≤ 32 → Crashes (states p) (after p)) (tells : (p : ℕ) → p ≤ 32 → (after p).tells ≡ true) where
-  -- devices that stand and are quiet stand after a stop
-  quiet_stands : StandsFor s states m → StandsFor s after m
-  quiet_stands h =
+  pub quiet_begins : CanBegin s states m → CanBegin s after m
+  quiet_begins h =
       let same : (p : ℕ) → p ≤ 32 → cells_of after p ≡ cells_of states p = λ p low. fun_ext (λ q. rest_leaves ((states p).file q) ((after p).file q).now (h.quiet p q low) ((crash p low).outcome (tells p low) q)) in
       let nodes : (p : ℕ) → p < 32 → cells_of after p ≡ cells_of states p = λ p low. same p (omega (arith, low)) in
       let places = numbers_below s.shape.nodes in
       record {
+        single = h.single;
         sets = h.sets;
         quiet = λ p q low. (crash p low).at_rest q;
         store = record {
@@ -72,9 +73,5 @@ module _ (s : Setup) (states after : ℕ → DeviceState) (m : Machine) (crash :
         index = h.index;
         halt = h.halt ∙ sym (halt_same (cells_of states) (cells_of after) (same 32 (omega arith)));
         mark_is = h.mark_is;
+        unindexed = unindexed_same (cells_of states) (cells_of after) (same 32 (omega arith)) h.unindexed;
       }
-
-  -- what has come to rest stands after a stop
-  pub rests : HasRest s states m → StandsFor s after m
-  rests (inl h) = quiet_stands h
-  rests (inr over) = subst (λ (x : Setup). StandsFor x after m) over.1 (crashed over.0 states after m over.2 crash tells)

@@ -23,7 +23,7 @@ use Rattle.halt_file.specs.Conditions.{conditions}
 use Rattle.ckpt_model.specs.Questions.{is_due, verdict, verdict_on, all_valid, is_full, start_refusal, is_kept_and, is_id_of}
 use Rattle.ckpt_model.specs.Answers.{answer_if, answer_to, effect, have_answer, is_saved, is_offer_settled, empty_dataset, yes_if, need_answer, exit_answer, is_refused}
 use Rattle.ckpt_model.specs.Runs.{StepsTo}
-use Rattle.ckpt_model.specs.Play.{plain_choice}
+use Rattle.ckpt_model.specs.Stops.{may_stop}
 use Rattle.round_core.specs.declared.seat.Seat.{Seat}
 use Rattle.round_core.specs.Seats.{is_complete, first_call, judged_of, seat_is_valid, owed}
 use Rattle.site_core.specs.declared.cache.Cached.{Cached}
@@ -32,7 +32,7 @@ use Rattle.site_core.specs.Cores.{IsOpened}
 use Rattle.site_core.specs.declared.cache.Mark.{Mark}
 use Rattle.site_core.specs.declared.cache.Mark.TheVariants as mark
 use Rattle.site_core.specs.declared.core_state.Core.{Core}
-use Rattle.site_core.specs.Shown.{Contents, running, setup_of, set_of, kept_of, rank_of, all_files, stopped}
+use Rattle.site_core.specs.Shown.{Contents, running, setup_of, set_of, kept_of, rank_of, all_files}
 use Rattle.site_core.specs.Choosing.{verdict_of, start_verdict, named_in, newest_of, seals, is_settled_one, is_crowded, is_needed, due_in, is_due as is_due_one}
 use Rattle.site_core.proofs.Ranks.{any-map, all-map, valid_is, first_is, calls_are}
 use Rattle.site_core.proofs.Gates.{answers, round_is, both}
@@ -203,6 +203,5 @@ finalized c bytes complete first clear none =
 ended_is : (seats : List Seat) → list_all (λ (r : RankState). r.ended) (map rank_of seats) ≡ list_all (λ (seat : Seat). seat.ended) seats
 ended_is seats = all-map (λ (r : RankState). r.ended) rank_of (λ (seat : Seat). seat.ended) (λ seat. refl) seats
 
-pub ends : (c : Core) (bytes : Contents) → is_complete c.ranks ≡ true → list_all (λ (seat : Seat). seat.ended) c.ranks ≡ true
-    → StepsTo (setup_of c) (running bytes c) (event.Stop cause.Ended) (stopped bytes c)
-ends c bytes complete ended = (plain_choice, both _ _ (both _ _ (both _ _ (round_is c bytes ∙ complete) (ended_is c.ranks ∙ ended)) refl) refl, refl)
+pub may_end : (c : Core) (bytes : Contents) → is_complete c.ranks ≡ true → list_all (λ (seat : Seat). seat.ended) c.ranks ≡ true → may_stop (running bytes c) cause.Ended ≡ true
+may_end c bytes complete ended = both _ _ (round_is c bytes ∙ complete) (ended_is c.ranks ∙ ended)

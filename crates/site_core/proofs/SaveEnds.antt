@@ -168,6 +168,7 @@ seal_told first c programs states events events' w n m h late opened more =
           (sealing c bytes h.saves.round.valid m h.saves.round.complete h.saves.round.first h.saves.round.clear h.saves.round.all opened (h.well.opened_last m opened));
       so_far = tells_more c.places programs events events' (event.Sealing m.desc.which) more h.so_far tt refl;
       well = record {
+        single = h.well.single;
         places = h.well.places;
         rise = ascend-push 1 c.kept x (id_some m.desc) (h.well.opened_last m opened) h.well.rise;
         below = below-push c.next c.kept x (h.well.opened_below m opened) h.well.below;
@@ -181,6 +182,7 @@ seal_told first c programs states events events' w n m h late opened more =
       files = record {
         stored = h.files.stored;
         halted = h.files.halted;
+        unindexed = h.files.unindexed;
         files = λ y known. h.files.files y (known_before y known);
         records = λ i y at sealed. at_old i y at sealed (last-or-before c.kept x y i at);
         others = λ p which node low at foreign. h.files.others p which node low at (λ y known. foreign y (known_after y known));
@@ -348,6 +350,7 @@ module _ (first : Machine) (c : Core) (programs : List (List Step)) (states afte
             (run_on (setup_of c) first (running bytes c) (running bytes d) events events' (event.Settled m.desc.which) more h.run (settles c bytes h.saves.round.valid m.desc.which h.saves.round.complete h.saves.round.first is_sealed));
         so_far = tells_more c.places programs events events' (event.Settled m.desc.which) more h.so_far tt refl;
         well = record {
+          single = h.well.single;
           places = h.well.places;
           rise = ascend-settled m.desc.which 1 c.kept h.well.rise;
           below = below-settled m.desc.which c.next c.kept h.well.below;
@@ -361,6 +364,7 @@ module _ (first : Machine) (c : Core) (programs : List (List Step)) (states afte
         files = subst (λ (cells : Cells). FilesHold d cells) (sym same) (record {
           stored = h.files.stored;
           halted = h.files.halted;
+          unindexed = h.files.unindexed;
           files = λ y known. h.files.files y (known_settled c m.desc.which y known);
           records = λ i y at sealed. records_then i y at;
           others = λ p which node low at foreign. h.files.others p which node low at (λ y known. foreign y (settled_known c m.desc.which y known));

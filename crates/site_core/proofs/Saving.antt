@@ -203,10 +203,10 @@ abbrev pub staged : Core → Stage → Core
 staged c s = record c { stage = s }
 
 staged_well : (c : Core) (s : Stage) → IsWell c → IsWell (staged c s)
-staged_well c s w = record { places = w.places; rise = w.rise; below = w.below; sets = w.sets; opened_run = w.opened_run; opened_below = w.opened_below; opened_last = w.opened_last; output = w.output; ranks = w.ranks }
+staged_well c s w = record { single = w.single; places = w.places; rise = w.rise; below = w.below; sets = w.sets; opened_run = w.opened_run; opened_below = w.opened_below; opened_last = w.opened_last; output = w.output; ranks = w.ranks }
 
 staged_files : (c : Core) (s : Stage) (cells : Cells) → FilesHold c cells → FilesHold (staged c s) cells
-staged_files c s cells f = record { stored = f.stored; halted = f.halted; files = f.files; records = f.records; others = f.others; future = f.future; fresh = f.fresh }
+staged_files c s cells f = record { stored = f.stored; halted = f.halted; unindexed = f.unindexed; files = f.files; records = f.records; others = f.others; future = f.future; fresh = f.fresh }
 
 staged_saves : (w : Work) (n : ℕ) (c : Core) (s : Stage) (m : Manifest) (states : ℕ → DeviceState) → SavesAt w n c m states → SavesAt w n (staged c s) m states
 staged_saves w n c s m states h = record {

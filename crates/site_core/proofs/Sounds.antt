@@ -6,7 +6,7 @@ use Rattle.std.proofs.lemmas.List.{get_or-map, get_or_past, length-map}
 use Rattle.node_device.specs.DeviceState.{DeviceState, IsSound}
 use Rattle.node_device.specs.Rack.{Rack, nowhere, states_of}
 
-below_or_not : (k n : ℕ) → (k < n) ⊎ (n ≤ k)
+pub below_or_not : (k n : ℕ) → (k < n) ⊎ (n ≤ k)
 below_or_not k n = grind arith
 
 nowhere_sound : IsSound nowhere

@@ -1,5 +1,5 @@
 -- A dataset is begun.
-use Rattle.std.proofs.Common.{◌≡◌, ◌⊎◌, inl, inr, ℕ, zero, suc, ◌+◌, ◌*◌, ◌/◌, ◌%◌, ◌<◌, ◌≤◌, ◌^◌, false, List, [], ◌∷◌, ◌++◌, length, map, replicate, Some, None, refl, sym, ap, ◌∙◌, subst, slice_get, get_or, arith}
+use Rattle.std.proofs.Common.{◌≡◌, ◌⊎◌, inl, inr, ℕ, zero, suc, ◌+◌, ◌*◌, ◌/◌, ◌%◌, ◌<◌, ◌≤◌, ◌^◌, true, false, List, [], ◌∷◌, ◌++◌, length, map, replicate, Some, None, refl, sym, ap, ◌∙◌, subst, slice_get, get_or, arith}
 use Rattle.std.specs.Prelude.{IsTrue, All}
 use Rattle.std.proofs.lemmas.Bool.Decides.{nat_tests}
 use Rattle.std.proofs.lemmas.List.{length-map, length-replicate}
@@ -32,6 +32,7 @@ use Rattle.site_core.specs.declared.core_state.Stage.TheVariants as stage
 use Rattle.site_core.specs.Shown.{running, setup_of}
 use Rattle.site_core.specs.Choosing.{AreBelow, is_crowded}
 use Rattle.site_core.specs.Cores.{IsOpened, HasShape}
+use Rattle.site_stands.specs.Described.{is_single}
 use Rattle.site_core.specs.Stored.{Cells, cells_of, contents_of, place_of_rank, IsFuture, IsKnown, IsAmong, IsOfSite}
 use Rattle.site_core.specs.Holds.{Leads, IsPending, NoRecordYet, WorkIs}
 use Rattle.site_core.specs.Follows.{IsClearRound}
@@ -84,10 +85,11 @@ begins first c programs states events events' name flags m which ranks at round 
           (started c bytes name flags m round.complete round.first round.clear room opened which is));
       so_far = tells_more c.places programs events events' (event.Decided kind.Start (reply.Started which)) more h.so_far tt refl;
       well = record {
+        single = h.well.single;
         places = h.well.places;
         rise = h.well.rise;
         below = below-more c.next c.kept h.well.below;
-        sets = λ x known. of_site h.well.sets x known;
+        sets = λ x known. of_site h.well.single h.well.sets x known;
         opened_run = λ x e. ap (λ (w : DataId). w.run) (which_is x e);
         opened_below = λ x e. omega (arith, ap (λ (w : DataId). w.id) (which_is x e));
         output = λ x e. refl;
@@ -97,6 +99,7 @@ begins first c programs states events events' name flags m which ranks at round 
       files = record {
         stored = h.files.stored;
         halted = h.files.halted;
+        unindexed = h.files.unindexed;
         files = λ x known. stands h.files.files x known;
         records = h.files.records;
         others = λ p w node low place foreign. h.files.others p w node low place (λ x known same home. foreign x (known_more x known) same home);
@@ -121,10 +124,10 @@ begins first c programs states events events' name flags m which ranks at round 
       map_is : IsMap (c.shape.nodes * c.shape.ranks) m.files
       map_is = subst (λ (fs : List (List FileRow)). IsMap (c.shape.nodes * c.shape.ranks) fs) (sym opened.files) (record { ranks_are = length-replicate (c.shape.nodes * c.shape.ranks) []; rows = none-rows (c.shape.nodes * c.shape.ranks) })
 
-      of_site : ((x : Manifest) → IsKnown c x → IsOfSite c.shape c.run x) → (x : Manifest) → IsKnown (begun_core c m ranks) x → IsOfSite c.shape c.run x
-      of_site old x known = pick (known_before x known) where
+      of_site : is_single c.config.scheme ≡ true → ((x : Manifest) → IsKnown c x → IsOfSite c.shape c.run x) → (x : Manifest) → IsKnown (begun_core c m ranks) x → IsOfSite c.shape c.run x
+      of_site single old x known = pick (known_before x known) where
         mine : IsOfSite c.shape c.run m
-        mine = record { named = opened.named; nodes = shape.nodes; ranks = shape.ranks; files = map_is; run_is = omega (arith, ap (λ (w : DataId). w.run) opened.which) }
+        mine = record { named = opened.named; nodes = shape.nodes; ranks = shape.ranks; files = map_is; run_is = omega (arith, ap (λ (w : DataId). w.run) opened.which); single = ap is_single opened.scheme ∙ single }
 
         pick : (Some m ≡ Some x) ⊎ IsKnown c x → IsOfSite c.shape c.run x
         pick (inl e) = subst (λ (y : Manifest). IsOfSite c.shape c.run y) (some_same m x e) mine

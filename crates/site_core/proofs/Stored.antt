@@ -39,8 +39,8 @@ use Rattle.site_core.specs.Calls.{Tells}
 use Rattle.site_core.specs.Numbers.{IsNumberFile, Way}
 use Rattle.site_core.specs.Shown.{Contents, setup_of, kept_of, begun}
 use Rattle.site_core.specs.Stored.{cells_of, contents_of, contents_in, is_named, place_of_rank, file_name, run_number, FilesStand, FileStands, RecordsStand, RecordIs, NoOtherRecords, NoFutureFiles, IsFuture}
-use Rattle.site_core.specs.Holds.{HoldsAt, LeftAt, Leads, IsOneOf, settled_set, IsStoring, IsSoFar}
-use Rattle.site_core.proofs.Halts.{halt_apart}
+use Rattle.site_core.specs.Holds.{HoldsAt, ClosesAt, Leads, IsOneOf, settled_set, IsStoring, IsSoFar}
+use Rattle.site_core.proofs.Halts.{halt_apart, unindexed_apart}
 use Rattle.site_core.proofs.Puts.{place_is, few_nodes}
 use Rattle.site_core.proofs.Numbering.{storing_at, told_storing}
 
@@ -122,7 +122,7 @@ stepped first c programs states after events over way at same done told leads =
     let d : Core = record c { storing = way } in
     let way_on : IsPairStage (codes "run") h.old c.storing.want (after 32) way.changes = (done.here.goes h.old h.way).stage in
     let holds : IsStoring d after m = record {
-      fresh = record { places = fresh.places; phase_is = fresh.phase_is; offer = fresh.offer; opened = fresh.opened; ranks = fresh.ranks; settled = fresh.settled; needs = fresh.needs; reading = fresh.reading };
+      fresh = record { single = fresh.single; places = fresh.places; phase_is = fresh.phase_is; offer = fresh.offer; opened = fresh.opened; ranks = fresh.ranks; settled = fresh.settled; needs = fresh.needs; reading = fresh.reading };
       sets = h.sets;
       old = h.old;
       old_is = h.old_is;
@@ -141,6 +141,7 @@ stepped first c programs states after events over way at same done told leads =
       index = h.index;
       halt = h.halt;
       halted = halt_apart states after done.here.only ∙ h.halted;
+      unindexed = unindexed_apart states after done.here.only h.unindexed;
       mark_is = h.mark_is;
       run = h.run;
       fits = h.fits;
@@ -150,7 +151,7 @@ stepped first c programs states after events over way at same done told leads =
       run = leads.run;
       holds = subst (λ (s : Stage). HoldsAt s d after m) (sym at) holds;
       told = leads.told;
-      left = subst (λ (s : Stage). LeftAt s (setup_of c) first c.places after events) (sym at) tt;
+      closes = subst (λ (s : Stage). ClosesAt s (setup_of c) first c.places programs after events) (sym at) tt;
     } where
       pick : (p : ℕ) (q : List ℕ) → p ≤ 32 → (p ≡ 32 → IsNumberFile q → ⊥) → (p ≡ 32) ⊎ (p ≢ 32) → IsAtRest ((states p).file q) → IsAtRest ((after p).file q)
       pick p q low other (inl is) rest = subst (λ (k : ℕ). IsAtRest ((after k).file q)) (sym is) (done.here.rest q (λ e. other is (inl e)) (λ e. other is (inr e)) (subst (λ (k : ℕ). IsAtRest ((states k).file q)) is rest))
@@ -218,26 +219,27 @@ arrived first c programs states after events events' over way at is_over tells d
       run = run_on (setup_of c) first m (begun c m.next kept) events events' (event.Run c.run c.places) more leads.run
           (four _ _ _ _ (ap is_between h.between) (equal c.run (m.run + 1) h.run) (small_run m.run c.run h.run h.fits) (ap (are_places (setup_of c)) places ∙ places_fit (setup_of c)), begun_is c m kept kept_is h.index h.halt h.mark_is);
       holds = record {
-        fresh = record { places = fresh.places; phase_is = fresh.phase_is; offer = fresh.offer; opened = fresh.opened; ranks = fresh.ranks; settled = fresh.settled; needs = fresh.needs; reading = fresh.reading };
+        fresh = record { single = fresh.single; places = fresh.places; phase_is = fresh.phase_is; offer = fresh.offer; opened = fresh.opened; ranks = fresh.ranks; settled = fresh.settled; needs = fresh.needs; reading = fresh.reading };
         sets = h.sets;
         next = m.next;
         quiet = λ p q low. pick p q low at_rest (cases_eq p 32) (is_or_not q (copy_name (codes "run") 0)) (is_or_not q (copy_name (codes "run") 1)) (h.quiet p q low);
         store = record {
           stored = ap run_number (come_value files (copy_of want) want copy stands) ∙ ap (λ (w : PairValue). w.version) h.want;
           rise = h.rise;
-          sets_are = λ x one. let of = h.sets_are x one in record { named = of.named; nodes = of.nodes; ranks = of.ranks; files = of.files; run_is = omega (arith, of.run_is, h.run) };
+          sets_are = λ x one. let of = h.sets_are x one in record { named = of.named; nodes = of.nodes; ranks = of.ranks; files = of.files; run_is = omega (arith, of.run_is, h.run); single = of.single };
           files = λ x one. subst (λ (ps : List ℕ). FilesStand (cells_of after) ps c.shape.ranks x) places (files_after states after nodes c.shape c.places places x (h.files x one));
           records = λ x one. subst (λ (ps : List ℕ). RecordsStand (cells_of after) ps x) places (records_after states after nodes c.shape c.places places x (h.records x one));
           others = subst (λ (ps : List ℕ). NoOtherRecords (IsOneOf h.sets) (cells_of after) ps) places (others_after states after nodes (IsOneOf h.sets) c.places h.others);
           future = λ p which node local j low place sl sj later. future p which node local j low place sl sj (sooner which later);
         };
         halted = halt_apart states after done.here.only ∙ h.halted;
+        unindexed = unindexed_apart states after done.here.only h.unindexed;
         runs = λ x one. let of = h.sets_are x one in omega (arith, of.run_is, h.run);
         future = future;
         is = refl;
       };
       told = subst (λ (es : List Event). IsSoFar c.places programs es) (sym alone) (record { begin = bytes-same c.places; steps = (tt, tt); goes_on = refl });
-      left = tt;
+      closes = tt;
     } where
       sooner : (which : DataId) → IsFuture (c.run + 1) 0 which → IsFuture c.run 0 which
       sooner which (inl lt) = inl (omega (arith, lt))

@@ -6,24 +6,18 @@ use Rattle.std.proofs.lemmas.List.{get_or-map, get_or_past}
 use Rattle.std.proofs.Math.Path.{fun_ext}
 use Rattle.node_device.specs.DeviceState.{DeviceState}
 use Rattle.node_device.specs.Rack.{Rack, nowhere, states_of, OnlyAt}
-use Rattle.site_core.specs.Calls.{Same, Tells, TellsAll}
+use Rattle.site_core.specs.Calls.{Same, Tells, TellsAlike}
 
-below_or_not : (k n : ℕ) → (k < n) ⊎ (n ≤ k)
-below_or_not k n = grind arith
+-- where each device told its contents, each tells them
+pub tell_on : (old new : ℕ → DeviceState) → TellsAlike old new → Tells old → Tells new
+tell_on old new alike tells = λ p low. alike p ∙ tells p low
 
--- where every device tells its contents, each place does
-pub tells_of : {D : Type 0} (state : D → DeviceState) → TellsAll state → (rack : Rack D) (place : ℕ) → (states_of state rack place).tells ≡ true
-unfolding states_of
-tells_of state tells rack place = elim (eqb_tells place 32) [
-  | inl h ↦ rw h.0 (tells rack.prefix)
-  | inr h ↦ rw h.0 (elim (below_or_not place (length rack.nodes)) [
-    | inl lt ↦ ap (λ (s : DeviceState). s.tells) (get_or-map state rack.nodes place rack.prefix nowhere lt) ∙ tells (get_or rack.nodes place rack.prefix)
-    | inr past ↦ ap (λ (s : DeviceState). s.tells) (get_or_past (map state rack.nodes) place nowhere (omega (arith, Rattle.std.proofs.lemmas.List.length-map rack.nodes state)))
-  ])
-]
-
-pub tells_all : {D : Type 0} (state : D → DeviceState) → TellsAll state → (rack : Rack D) → Tells (states_of state rack)
-tells_all state tells rack = λ p low. tells_of state tells rack p
+-- one device alone was called, and goes on telling
+pub alike_only : (place : ℕ) (old new : ℕ → DeviceState) → ((q : ℕ) → q ≢ place → new q ≡ old q) → (new place).tells ≡ (old place).tells → TellsAlike old new
+alike_only place old new others here = λ p. pick p (cases_eq p place) where
+  pick : (p : ℕ) → (p ≡ place) ⊎ (p ≢ place) → (new p).tells ≡ (old p).tells
+  pick p (inl is) = subst (λ (q : ℕ). (new q).tells ≡ (old q).tells) (sym is) here
+  pick p (inr away) = ap (λ (d : DeviceState). d.tells) (others p away)
 
 -- after a call that changed nothing each place is as it was
 pub same_states : (place : ℕ) (old new : ℕ → DeviceState) → OnlyAt place Same old new → new ≡ old

@@ -20,27 +20,25 @@ use Rattle.site_core.specs.declared.core_state.Stage.TheVariants as stage
 use Rattle.site_core.specs.declared.core_state.Core.{Core}
 use Rattle.site_core.specs.Shown.{running, setup_of, served}
 use Rattle.site_core.specs.Stored.{Cells, cells_of, contents_of, FilesHold, IsWell}
-use Rattle.site_core.specs.Holds.{IsUp, HoldsAt, IsSoFar, ToldAt, LeftAt, Leads, WorkIs, NoRecordYet, IsPending}
+use Rattle.site_core.specs.Holds.{IsUp, HoldsAt, IsSoFar, ToldAt, ClosesAt, Leads, WorkIs, NoRecordYet, IsPending}
 
 -- recovery has looked, and the run isn't over
 abbrev pub is_up : Stage → Bool
 is_up stage.Begun = false
 is_up stage.Storing = false
 is_up stage.Looking = false
-is_up stage.Stopped = false
+is_up stage.Over = false
 is_up (stage.Dropping d n) = false
 is_up stage.Dropped = false
-is_up stage.Cut = false
 is_up _ = true
 
 pub up_at : (s : Stage) (c : Core) (states : ℕ → DeviceState) (m : Machine) → is_up s ≡ true → HoldsAt s c states m → IsUp c states m
 up_at stage.Begun c states m e h = absurd (cc)
 up_at stage.Storing c states m e h = absurd (cc)
 up_at stage.Looking c states m e h = absurd (cc)
-up_at stage.Stopped c states m e h = absurd (cc)
+up_at stage.Over c states m e h = absurd (cc)
 up_at (stage.Dropping d n) c states m e h = absurd (cc)
 up_at stage.Dropped c states m e h = absurd (cc)
-up_at stage.Cut c states m e h = absurd (cc)
 up_at stage.Mending c states m e h = h
 up_at stage.Serving c states m e h = h
 up_at (stage.Saving w n) c states m e h = h
@@ -49,10 +47,9 @@ pub at_up : (s : Stage) (c : Core) (states : ℕ → DeviceState) (m : Machine) 
 at_up stage.Begun c states m e h = absurd (cc)
 at_up stage.Storing c states m e h = absurd (cc)
 at_up stage.Looking c states m e h = absurd (cc)
-at_up stage.Stopped c states m e h = absurd (cc)
+at_up stage.Over c states m e h = absurd (cc)
 at_up (stage.Dropping d n) c states m e h = absurd (cc)
 at_up stage.Dropped c states m e h = absurd (cc)
-at_up stage.Cut c states m e h = absurd (cc)
 at_up stage.Mending c states m e h = h
 at_up stage.Serving c states m e h = h
 at_up (stage.Saving w n) c states m e h = h
@@ -61,10 +58,9 @@ pub told_up : (s : Stage) (places : List ℕ) (programs : List (List Step)) (eve
 told_up stage.Begun places programs events e h = absurd (cc)
 told_up stage.Storing places programs events e h = absurd (cc)
 told_up stage.Looking places programs events e h = absurd (cc)
-told_up stage.Stopped places programs events e h = absurd (cc)
+told_up stage.Over places programs events e h = absurd (cc)
 told_up (stage.Dropping d n) places programs events e h = absurd (cc)
 told_up stage.Dropped places programs events e h = absurd (cc)
-told_up stage.Cut places programs events e h = absurd (cc)
 told_up stage.Mending places programs events e h = h
 told_up stage.Serving places programs events e h = h
 told_up (stage.Saving w n) places programs events e h = h
@@ -73,10 +69,9 @@ pub up_told : (s : Stage) (places : List ℕ) (programs : List (List Step)) (eve
 up_told stage.Begun places programs events e h = absurd (cc)
 up_told stage.Storing places programs events e h = absurd (cc)
 up_told stage.Looking places programs events e h = absurd (cc)
-up_told stage.Stopped places programs events e h = absurd (cc)
+up_told stage.Over places programs events e h = absurd (cc)
 up_told (stage.Dropping d n) places programs events e h = absurd (cc)
 up_told stage.Dropped places programs events e h = absurd (cc)
-up_told stage.Cut places programs events e h = absurd (cc)
 up_told stage.Mending places programs events e h = h
 up_told stage.Serving places programs events e h = h
 up_told (stage.Saving w n) places programs events e h = h
@@ -150,17 +145,16 @@ led first c programs states events up leads =
       working = h.working;
     }
 
-up_left : (s : Stage) (setup : Rattle.ckpt_model.specs.Machine.Setup) (first : Machine) (places : List ℕ) (states : ℕ → DeviceState) (events : List Event) → is_up s ≡ true → LeftAt s setup first places states events
-up_left stage.Begun setup first places states events e = tt
-up_left stage.Storing setup first places states events e = tt
-up_left stage.Looking setup first places states events e = tt
-up_left stage.Stopped setup first places states events e = tt
-up_left (stage.Dropping d n) setup first places states events e = tt
-up_left stage.Dropped setup first places states events e = tt
-up_left stage.Cut setup first places states events e = absurd (cc e)
-up_left stage.Mending setup first places states events e = tt
-up_left stage.Serving setup first places states events e = tt
-up_left (stage.Saving w n) setup first places states events e = tt
+up_closes : (s : Stage) (setup : Rattle.ckpt_model.specs.Machine.Setup) (first : Machine) (places : List ℕ) (programs : List (List Step)) (states : ℕ → DeviceState) (events : List Event) → is_up s ≡ true → ClosesAt s setup first places programs states events
+up_closes stage.Begun setup first places programs states events e = tt
+up_closes stage.Storing setup first places programs states events e = tt
+up_closes stage.Looking setup first places programs states events e = tt
+up_closes stage.Over setup first places programs states events e = absurd (cc e)
+up_closes (stage.Dropping d n) setup first places programs states events e = tt
+up_closes stage.Dropped setup first places programs states events e = tt
+up_closes stage.Mending setup first places programs states events e = tt
+up_closes stage.Serving setup first places programs states events e = tt
+up_closes (stage.Saving w n) setup first places programs states events e = tt
 
 pub leads_up : (first : Machine) (c : Core) (programs : List (List Step)) (states : ℕ → DeviceState) (events : List Event) → is_up c.stage ≡ true → IsLed first c programs states events → Leads first c programs states events
 leads_up first c programs states events up h = record {
@@ -168,7 +162,7 @@ leads_up first c programs states events up h = record {
   run = h.run;
   holds = at_up c.stage c states (running (contents_of (cells_of states) c) c) up (record { is = refl; well = h.well; files = h.files; quiet = h.quiet; unrecorded = h.unrecorded; working = h.working });
   told = up_told c.stage c.places programs events up h.so_far;
-  left = up_left c.stage (setup_of c) first c.places states events up;
+  closes = up_closes c.stage (setup_of c) first c.places programs states events up;
 }
 
 -- what was pushed behind what was there
@@ -189,10 +183,10 @@ abbrev pub turned : Core → Phase → Option DataId → ℕ → Option ℕ → 
 turned c p o needs reading ranks = record c { phase = p; offer = o; needs = needs; reading = reading; ranks = ranks }
 
 turned_well : (c : Core) (p : Phase) (o : Option DataId) (needs : ℕ) (reading : Option ℕ) (ranks : List Seat) → length ranks ≡ length c.ranks → ((m : Manifest) → c.opened ≡ Some m → p ≡ phase.Output) → IsWell c → IsWell (turned c p o needs reading ranks)
-turned_well c p o needs reading ranks same output w = record { output = output; places = w.places; rise = w.rise; below = w.below; sets = w.sets; opened_run = w.opened_run; opened_below = w.opened_below; opened_last = w.opened_last; ranks = same ∙ w.ranks }
+turned_well c p o needs reading ranks same output w = record { single = w.single; output = output; places = w.places; rise = w.rise; below = w.below; sets = w.sets; opened_run = w.opened_run; opened_below = w.opened_below; opened_last = w.opened_last; ranks = same ∙ w.ranks }
 
 turned_files : (c : Core) (p : Phase) (o : Option DataId) (needs : ℕ) (reading : Option ℕ) (ranks : List Seat) (cells : Cells) → FilesHold c cells → FilesHold (turned c p o needs reading ranks) cells
-turned_files c p o needs reading ranks cells f = record { stored = f.stored; halted = f.halted; files = f.files; records = f.records; others = f.others; future = f.future; fresh = f.fresh }
+turned_files c p o needs reading ranks cells f = record { stored = f.stored; halted = f.halted; unindexed = f.unindexed; files = f.files; records = f.records; others = f.others; future = f.future; fresh = f.fresh }
 
 pub turns : (first : Machine) (c : Core) (programs : List (List Step)) (states : ℕ → DeviceState) (events events' : List Event) (e : Event) (p : Phase) (o : Option DataId) (needs : ℕ) (reading : Option ℕ) (ranks : List Seat)
     → c.stage ≡ stage.Serving → length ranks ≡ length c.ranks → ((m : Manifest) → c.opened ≡ Some m → p ≡ phase.Output) → IsLed first c programs states events

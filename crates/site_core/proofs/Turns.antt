@@ -1,6 +1,6 @@
 -- What a turn told.
 use Rattle.std.proofs.Common.{◌≡◌, ◌⊎◌, inl, refl, sym, subst, true, false, Option, None, Some, slice_get, Result, Ok, Err, IfOk, ap, ◌∙◌, inr, ℕ, List, [], ◌∷◌, ◌++◌, arith}
-use Rattle.node_device.specs.DeviceState.{DeviceState}
+use Rattle.node_device.specs.DeviceState.{DeviceState, IsSound}
 use Rattle.ckpt_model.specs.declared.event.Event.{Event}
 use Rattle.scr_base.specs.declared.answers.Refusal.{Refusal}
 use Rattle.scr_base.specs.declared.answers.Refusal.TheVariants as refusal
@@ -19,7 +19,9 @@ use Rattle.site_core.specs.declared.core_state.Core.{Core}
 use Rattle.site_core.specs.declared.core_state.Stage.TheVariants as stage
 use Rattle.site_core.specs.declared.core_state.Work.{Work}
 use Rattle.site_core.specs.Holds.{Leads}
-use Rattle.site_core.proofs.Cuts.{cut_core, cut_early, cut_looking, cut_saving, told_ends}
+use Rattle.site_core.proofs.Cuts.{cut_early, cut_looking, cut_saving, told_ends}
+use Rattle.site_core.proofs.Closing.{IsLawful, over_core}
+use Rattle.site_core.proofs.Sounds.{sound_of}
 use Rattle.site_core.proofs.Works.{saves_now, saved_is}
 use Rattle.scr_base.specs.declared.shape.DataId.{DataId}
 use Rattle.member_store.specs.Names.{record_name}
@@ -45,7 +47,6 @@ use Rattle.site_core.proofs.SaveEnds.{seal_told}
 use Rattle.site_core.proofs.Seals.{sealing}
 use Rattle.site_core.proofs.Works.{opened_is}
 use Rattle.site_core.proofs.Numbering.{storing_at}
-use Rattle.site_core.proofs.Telling.{tells_all}
 use Rattle.site_core.proofs.LeftStages.{IsLeft, Remains, remains, stage_left, left_unnumbered, left_alike, whole_refused, sealed_refused, loose_left, loose_of}
 use Rattle.site_core.specs.declared.turn.Turn.{Turn}
 use Rattle.site_core.specs.declared.turn.Turn.TheVariants as turn
@@ -97,6 +98,10 @@ calm_refused may old new _ e = tt
 
 -- ## The end of a run that a refused call brought
 
+-- what reads of sound devices give may be left
+pub lawful : {D : Type 0} (state : D → DeviceState) → ((d : D) → IsSound (state d)) → (bay : Rack D) → IsLawful (states_of state bay)
+lawful state sound bay p q = (sound_of state sound bay p).now_allowed q
+
 module _ {D : Type 0} (state : D → DeviceState) (old new : Site D) (t : Trouble) (is : new.history.events ≡ old.history.events ++ event.Stop (cause_of t) ∷ []) where
   pub tells_end : (T : Type 0) (may : ℕ → List ℕ → ℕ → ℕ → Type 0) (bay : Rack D) → new.bay ≡ bay → is_told t ≡ true → CallCause {T = T} may (states_of state old.bay) (states_of state bay) (Err t) → Tells IsOfWorker may state old new
   tells_end T may bay same told why = tells_one IsOfWorker may state old new (event.Stop (cause_of t)) is (ended_by t told)
@@ -111,37 +116,37 @@ module _ {D : Type 0} (state : D → DeviceState) (old new : Site D) (t : Troubl
   goes_on (inl at) = ap is_over at
   goes_on (inr at) = ap is_over at
 
-  module _ (core : new.core ≡ cut_core old.core) (programs : new.programs ≡ old.programs) where
-    pub leads_so : (first : Machine) → Leads first (cut_core old.core) old.programs (states_of state new.bay) new.history.events → Follows state first new
-    leads_so first l = subst (λ (x : Core). Leads first x new.programs (states_of state new.bay) new.history.events) (sym core) (subst (λ (ps : List (List Step)). Leads first (cut_core old.core) ps (states_of state new.bay) new.history.events) (sym programs) l)
+  module _ (core : new.core ≡ over_core old.core) (programs : new.programs ≡ old.programs) where
+    pub leads_so : (first : Machine) → Leads first (over_core old.core) old.programs (states_of state new.bay) new.history.events → Follows state first new
+    leads_so first l = subst (λ (x : Core). Leads first x new.programs (states_of state new.bay) new.history.events) (sym core) (subst (λ (ps : List (List Step)). Leads first (over_core old.core) ps (states_of state new.bay) new.history.events) (sym programs) l)
 
     pub ends_early : (old.core.stage ≡ stage.Begun) ⊎ (old.core.stage ≡ stage.Storing) → is_told t ≡ true → (bay : Rack D) → new.bay ≡ bay → OnlyAt 32 KeptAlike (states_of state old.bay) (states_of state bay) → Keeps state old new
-    ends_early at told bay same done tells first f =
-        leads_so first (cut_early first old.core old.programs (states_of state old.bay) (states_of state new.bay) old.history.events new.history.events (cause_of t) at (told_ends t told) is f (alike_left first 32 bay same done (goes_on at) f))
+    ends_early at told bay same done tells first base f =
+        leads_so first (cut_early first old.core old.programs (states_of state old.bay) (states_of state new.bay) old.history.events new.history.events (cause_of t) (lawful state base.sound new.bay) base.fair at (told_ends t told) is f (alike_left first 32 bay same done (goes_on at) f))
 
     pub ends_looking : old.core.stage ≡ stage.Looking → is_told t ≡ true → (place : ℕ) (bay : Rack D) → new.bay ≡ bay → OnlyAt place KeptAlike (states_of state old.bay) (states_of state bay) → Keeps state old new
-    ends_looking at told place bay same done tells first f =
-        leads_so first (cut_looking first old.core old.programs (states_of state old.bay) (states_of state new.bay) old.history.events new.history.events (cause_of t) at (told_ends t told) is f (alike_left first place bay same done (ap is_over at) f))
+    ends_looking at told place bay same done tells first base f =
+        leads_so first (cut_looking first old.core old.programs (states_of state old.bay) (states_of state new.bay) old.history.events new.history.events (cause_of t) (lawful state base.sound new.bay) base.fair at (told_ends t told) is f (alike_left first place bay same done (ap is_over at) f))
 
     -- what is left of a run that saves a dataset, whichever that is
     abbrev pub SavingLeft : Work → ℕ → Rack D → Type 0
     SavingLeft w n bay = (first : Machine) (m : Manifest) → IsSaving first old.core old.programs (states_of state old.bay) old.history.events w n m → Remains old.core (states_of state bay) (running (contents_of (cells_of (states_of state old.bay)) old.core) old.core) (cause_of t)
 
     pub ends_saving : (w : Work) (n : ℕ) → old.core.stage ≡ stage.Saving w n → is_device_fault t ≡ true → (bay : Rack D) → new.bay ≡ bay → SavingLeft w n bay → Keeps state old new
-    ends_saving w n at fault bay same left tells first f =
+    ends_saving w n at fault bay same left tells first base f =
         let h = saves_now first old.core old.programs (states_of state old.bay) old.history.events w n at f in
-        leads_so first (cut_saving first old.core old.programs (states_of state old.bay) (states_of state new.bay) old.history.events new.history.events t w n h.0 h.1 fault is
+        leads_so first (cut_saving first old.core old.programs (states_of state old.bay) (states_of state new.bay) old.history.events new.history.events t w n h.0 (lawful state base.sound new.bay) base.fair h.1 fault is
         (subst (λ (b : Rack D). Remains old.core (states_of state b) (running (contents_of (cells_of (states_of state old.bay)) old.core) old.core) (cause_of t)) (sym same) (left first h.0 h.1)))
 
   -- the number's way may have changed with it
-  pub ends_storing : (w : Way) → new.core ≡ (let x : Core = record old.core { stage = stage.Cut; storing = w } in x) → new.programs ≡ old.programs → old.core.stage ≡ stage.Storing → is_told t ≡ true
+  pub ends_storing : (w : Way) → new.core ≡ (let x : Core = record old.core { stage = stage.Over; storing = w } in x) → new.programs ≡ old.programs → old.core.stage ≡ stage.Storing → is_told t ≡ true
       → (bay : Rack D) → new.bay ≡ bay → OnlyAt 32 (Unnumbered old.core.storing.want old.core.storing.changes) (states_of state old.bay) (states_of state bay) → Keeps state old new
-  ends_storing w core programs at told bay same done tells first f =
-      let l = cut_early first old.core old.programs (states_of state old.bay) (states_of state new.bay) old.history.events new.history.events (cause_of t) (inr at) (told_ends t told) is f (subst (λ (b : Rack D). IsLeft old.core (states_of state b) f.state) (sym same)
-      (left_unnumbered old.core (states_of state old.bay) (states_of state bay) f.state at (storing_at old.core.stage old.core (states_of state old.bay) f.state at f.holds) (tells_all state tells bay 32 (omega arith)) done)) in
-      let m : Leads first (let x : Core = record old.core { stage = stage.Cut; storing = w } in x) old.programs (states_of state new.bay) new.history.events = record { state = l.state; run = l.run; holds = tt; told = l.told; left = l.left } in
+  ends_storing w core programs at told bay same done tells first base f =
+      let l = cut_early first old.core old.programs (states_of state old.bay) (states_of state new.bay) old.history.events new.history.events (cause_of t) (lawful state base.sound new.bay) base.fair (inr at) (told_ends t told) is f (subst (λ (b : Rack D). IsLeft old.core (states_of state b) f.state) (sym same)
+      (left_unnumbered old.core (states_of state old.bay) (states_of state bay) f.state at (storing_at old.core.stage old.core (states_of state old.bay) f.state at f.holds) (done.here.only.tells ∙ tells 32 (omega arith)) done)) in
+      let m : Leads first (let x : Core = record old.core { stage = stage.Over; storing = w } in x) old.programs (states_of state new.bay) new.history.events = record { state = l.state; run = l.run; holds = tt; told = tt; closes = l.closes } in
       subst (λ (x : Core). Leads first x new.programs (states_of state new.bay) new.history.events) (sym core)
-      (subst (λ (ps : List (List Step)). Leads first (let x : Core = record old.core { stage = stage.Cut; storing = w } in x) ps (states_of state new.bay) new.history.events) (sym programs) m)
+      (subst (λ (ps : List (List Step)). Leads first (let x : Core = record old.core { stage = stage.Over; storing = w } in x) ps (states_of state new.bay) new.history.events) (sym programs) m)
 
 -- ## What is left of a run that saves a dataset
 
@@ -190,6 +195,7 @@ module _ {D : Type 0} (state : D → DeviceState) (old : Site D) (n place : ℕ)
         prefix = λ left out. let p = l.prefix left out in record { stored = p.stored; may = p.may; run = p.run; halt = p.halt };
         later = l.later;
         plain = record { mark = refl; pending = refl };
+        unindexed = l.unindexed;
       } where
         may_seal_first : (t : Trouble) → is_device_fault t ≡ true → IsTrue (may (setup_of old.core) before (event.Sealing m.desc.which)) → IsTrue (may_make (setup_of old.core) before (cause_of t) (event.Sealing m.desc.which ∷ []))
         may_seal_first error.Memory f is = absurd (cc f)

@@ -69,8 +69,7 @@ stage_ahead stage.Serving c = clock_ahead c.reading + open_ahead c.opened c.shap
 stage_ahead (stage.Saving work node) c = save_ahead work c.shape.nodes node (length c.ranks)
 stage_ahead (stage.Dropping drop node) c = drop_ahead drop (left c.removal.changes) c.shape.nodes node (length c.ranks)
 stage_ahead stage.Dropped c = round_ahead (length c.ranks)
-stage_ahead stage.Stopped c = 0
-stage_ahead stage.Cut c = 0
+stage_ahead stage.Over c = 0
 
 -- a node's record is written next: of a dataset that is being saved, or the first of one that is open
 abbrev pub IsToRecord : Stage → ℕ → Type 0

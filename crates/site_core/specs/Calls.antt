@@ -24,9 +24,9 @@ pub record Written (name : List ℕ) (at : ℕ) (bytes : List ℕ) (old new : De
 abbrev pub Tells : (ℕ → DeviceState) → Type 0
 Tells states = (p : ℕ) → p ≤ 32 → (states p).tells ≡ true
 
--- every device of this kind tells its contents
-abbrev pub TellsAll : {D : Type 0} → (D → DeviceState) → Type 0
-TellsAll {D} state = (d : D) → (state d).tells ≡ true
+-- each device that told its contents goes on telling them, and no other begins to
+abbrev pub TellsAlike : (ℕ → DeviceState) → (ℕ → DeviceState) → Type 0
+TellsAlike old new = (p : ℕ) → (new p).tells ≡ (old p).tells
 
 -- all of it was made stable
 pub record Synced (old new : DeviceState) : Type 0 where

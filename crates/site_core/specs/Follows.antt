@@ -7,12 +7,11 @@ use Rattle.scr_base.specs.declared.answers.Phase.TheVariants.{Output}
 use Rattle.scr_base.specs.declared.answers.Reply.{Reply}
 use Rattle.scr_base.specs.declared.content.Step.{Step}
 use Rattle.scr_base.specs.declared.shape.DataId.{DataId}
-use Rattle.node_device.specs.DeviceState.{DeviceState, used_of}
+use Rattle.node_device.specs.DeviceState.{DeviceState, IsSound, used_of}
 use Rattle.node_device.specs.Rack.{states_of}
 use Rattle.ckpt_model.specs.Machine.{Machine, Setup}
-use Rattle.ckpt_model.specs.Legal.{IsRunOf}
-use Rattle.ckpt_model.specs.Legal.Place.{AtEnd}
-use Rattle.ckpt_model.specs.Runs.{RunsTo, StepsTo}
+use Rattle.ckpt_model.specs.Runs.{StepsTo}
+use Rattle.model_proper.specs.Fair.{IsFair}
 use Rattle.ckpt_model.specs.declared.event.Event.{Event}
 use Rattle.ckpt_model.specs.declared.event.Event.TheVariants as event
 use Rattle.ckpt_model.specs.declared.event.Kind.{Kind}
@@ -30,7 +29,7 @@ use Rattle.scr_base.specs.declared.answers.Refusal.TheVariants as refusal
 use Rattle.ckpt_model.specs.declared.event.StopCause.{StopCause}
 use Rattle.ckpt_model.specs.declared.event.StopCause.TheVariants as stops
 use Rattle.site_core.specs.declared.core_state.Stage.{Stage}
-use Rattle.site_core.specs.declared.core_state.Stage.TheVariants.{Cut, Dropping, Dropped}
+use Rattle.site_core.specs.declared.core_state.Stage.TheVariants.{Over, Dropping, Dropped}
 use Rattle.site_core.specs.declared.turn.Turn.{Turn}
 use Rattle.site_core.specs.declared.turn.Turn.TheVariants as turn
 use Rattle.site_core.specs.Waiting.{is_over}
@@ -38,40 +37,38 @@ use Rattle.site_core.specs.Causes.{IsFault, IsFull, IsCalm}
 use Rattle.site_core.specs.Writes.{IsNoWrite, MakesWrite, MayWrite, PassesOn}
 use Rattle.site_core.specs.Shown.{Contents, running, setup_of, served, decided}
 use Rattle.site_core.specs.Choosing.{verdict_of}
-use Rattle.site_core.specs.Calls.{TellsAll}
+use Rattle.site_core.specs.Calls.{TellsAlike, Tells as AllTell}
 use Rattle.site_core.specs.Stored.{cells_of, contents_of}
-use Rattle.site_core.specs.Holds.{StandsFor, HasRest, HasLeft, Leads, IsSaving, IsCutRun}
+use Rattle.site_core.specs.Holds.{Leads, IsSaving}
 
 -- this holds of each event
 abbrev pub Each : (Event → Type 0) → List Event → Type 0
 Each p [] = Unit {0}
 Each p (e ∷ events) = p e × Each p events
 
--- between two runs the devices stand for this state
-abbrev pub Stands : Setup → (ℕ → DeviceState) → Machine → Type 0
-Stands s states m = StandsFor s states m
-
 -- the history leads from this state to one for which the site stands
 abbrev pub Follows : {D : Type 0} → (D → DeviceState) → Machine → Site D → Type 0
 Follows state first site = Leads first site.core site.programs (states_of state site.bay) site.history.events
 
+-- what each move counts on: devices are sound, and the state that the history leads from is fair
+pub record IsBased {D : Type 0} (state : D → DeviceState) (s : Setup) (first : Machine) : Type 0 where
+  pub sound : (d : D) → IsSound (state d)
+  pub fair : IsFair s first
+
 -- where the devices tell what they hold: from whatever state the history led, it still does
 abbrev pub Keeps : {D : Type 0} → (D → DeviceState) → Site D → Site D → Type 0
-Keeps state old new = TellsAll state → (first : Machine) → Follows state first old → Follows state first new
+Keeps state old new = AllTell (states_of state old.bay) → (first : Machine) → IsBased state (setup_of old.core) first → Follows state first old → Follows state first new
 
--- the events of a whole run lead from this state to one that the devices come to rest for
-pub record Ends (s : Setup) (states : ℕ → DeviceState) (first : Machine) (places : List ℕ) (programs : List (List Step)) (events : List Event) : Type 0 where
-  pub state : Machine
-  pub run : RunsTo s first events state
-  pub rest : HasRest s states state
-  pub item : IsRunOf places programs AtEnd events
+-- The site is a run from this state: its devices tell what they hold, and from that state, which is fair, the history leads to one for which
+-- the site stands.
+pub record IsRunFrom {D : Type 0} (state : D → DeviceState) (first : Machine) (site : Site D) : Type 0 where
+  pub tells : AllTell (states_of state site.bay)
+  pub fair : IsFair (setup_of site.core) first
+  pub leads : Follows state first site
 
--- the events of a run that a device ended, or somebody from outside; and what a stop leaves of its datasets in cache
-pub record WasCut (s : Setup) (states : ℕ → DeviceState) (first : Machine) (places : List ℕ) (programs : List (List Step)) (events : List Event) : Type 0 where
-  pub state : Machine
-  pub run : RunsTo s first events state
-  pub left : HasLeft s first places states events
-  pub item : IsCutRun places programs events
+-- from whatever state the site was a run, it still is
+abbrev pub KeepsRun : {D : Type 0} → (D → DeviceState) → Site D → Site D → Type 0
+KeepsRun state old new = (first : Machine) → IsRunFrom state first old → IsRunFrom state first new
 
 -- the run is over
 abbrev pub HasStopped : {D : Type 0} → Site D → Type 0
@@ -79,19 +76,24 @@ HasStopped site = is_over site.core.stage ≡ true
 
 -- ## What a turn tells
 
+-- the end of a run that ranks bring
+abbrev pub IsRanksEnd : StopCause → Type 0
+IsRanksEnd stops.Ended = Unit {0}
+IsRanksEnd _ = ⊥
+
 -- a turn of this rank may tell the event
 abbrev pub IsOfRank : ℕ → Event → Type 0
 IsOfRank r (event.Call rank number call) = rank ≡ r
 IsOfRank r (event.Reply rank number answer) = rank ≡ r
 IsOfRank r (event.Local rank number call answer) = rank ≡ r
 IsOfRank r (event.Decided kind answer) = Unit {0}
-IsOfRank r (event.Stop cause) = Unit {0}
+IsOfRank r (event.Stop cause) = IsRanksEnd cause
 IsOfRank r _ = ⊥
 
 -- it is no rank's own: the turn of any rank may tell it
 abbrev pub IsOfRound : Event → Type 0
 IsOfRound (event.Decided kind answer) = Unit {0}
-IsOfRound (event.Stop cause) = Unit {0}
+IsOfRound (event.Stop cause) = IsRanksEnd cause
 IsOfRound _ = ⊥
 
 -- an end of a run that no rank brings
@@ -108,7 +110,11 @@ IsOfWorker (event.Reply rank number answer) = ⊥
 IsOfWorker (event.Local rank number call answer) = ⊥
 IsOfWorker (event.Decided kind answer) = ⊥
 IsOfWorker (event.Time now) = ⊥
+IsOfWorker (event.GivenUp which cause) = ⊥
 IsOfWorker (event.Stop cause) = IsWorkersEnd cause
+IsOfWorker (event.Scavenged answer) = ⊥
+IsOfWorker (event.IndexCommand note) = ⊥
+IsOfWorker (event.HaltSet word answer) = ⊥
 IsOfWorker _ = Unit {0}
 
 -- the actor's turn may tell the event
@@ -192,12 +198,13 @@ pub record TellsFaults {D : Type 0} (state : D → DeviceState) (old new : Site 
   pub faults : IsCalm (states_of state old.bay) (states_of state new.bay) ⊎ TellsFault (states_of state old.bay) (states_of state new.bay) old.history.events new.history.events
   pub carries : CarriesNoMore old.core new.core
 
--- a round that carried none comes to carry a refusal by a device, which has its cause in this turn
+-- a round that carried none comes to carry a refusal by a device, which has its cause in this turn and isn't told yet
 pub record TakesUp {D : Type 0} (state : D → DeviceState) (old new : Site D) : Type 0 where
   pub refusal : Refusal
   pub none : carried old.core ≡ None
   pub now : carried new.core ≡ Some refusal
   pub of_device : is_fault (replies.Refused refusal) ≡ true
+  pub untold : new.history.events ≡ old.history.events
   pub cause : IsRefusedFor (MayWrite Encoder old.programs old.core) (states_of state old.bay) (states_of state new.bay) (replies.Refused refusal)
 
 -- each change of a count of faults is told or carried
@@ -254,19 +261,20 @@ pub record IsTold {D : Type 0} (now : ℕ) (old new : Site D) : Type 0 where
 -- a run that wasn't over was ended from outside, and no device was touched
 pub record IsHalted {D : Type 0} (old new : Site D) : Type 0 where
   pub events : new.history.events ≡ old.history.events ++ event.Stop stops.Script ∷ []
-  pub core : new.core ≡ record old.core { stage = Cut }
+  pub core : new.core ≡ record old.core { stage = Over }
   pub programs : new.programs ≡ old.programs
   pub bay : new.bay ≡ old.bay
   pub moves : new.moves ≡ old.moves
 
--- the run is the same one, and room for its end stays
-pub record IsSameRun {D : Type 0} (old new : Site D) : Type 0 where
+-- the run is the same one, room for its end stays, and its devices tell what they told
+pub record IsSameRun {D : Type 0} (state : D → DeviceState) (old new : Site D) : Type 0 where
   pub shape : new.core.shape ≡ old.core.shape
   pub config : new.core.config ≡ old.core.config
   pub places : new.core.places ≡ old.core.places
   pub programs : new.programs ≡ old.programs
   pub ranks : length new.core.ranks ≡ length old.core.ranks
   pub room : 1 ≤ old.history.spare → 1 ≤ new.history.spare
+  pub tells : TellsAlike (states_of state old.bay) (states_of state new.bay)
 
 -- the actor is one of a site of so many ranks
 abbrev pub IsActor : ℕ → Actor → Type 0
@@ -318,7 +326,7 @@ pub record IsRefusedRound (c : Core) (call : Step) (refusal : Refusal) : Type 0 
 -- a rank's step may be told so, with no file changed: where the site stands for a state, that is a step of the machine
 abbrev pub MayTell : {D : Type 0} → (D → DeviceState) → Site D → ℕ → Step → Reply → Type 0
 MayTell state site rank call answer =
-    TellsAll state → (first : Machine) → Follows state first site → (seat : Seat) → slice_get site.core.ranks rank ≡ Some seat
+    AllTell (states_of state site.bay) → (first : Machine) → Follows state first site → (seat : Seat) → slice_get site.core.ranks rank ≡ Some seat
     → StepsTo (setup_of site.core) (running (contents_of (cells_of (states_of state site.bay)) site.core) site.core) (event.Local rank (seat.number + 1) call answer)
     (running (contents_of (cells_of (states_of state site.bay)) site.core) (served site.core site.core.phase site.core.offer (slice_set site.core.ranks rank (stepped seat))))
 

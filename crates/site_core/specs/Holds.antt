@@ -8,6 +8,7 @@ use Rattle.scr_base.specs.declared.content.Step.{Step}
 use Rattle.scr_base.specs.declared.content.Step.TheVariants as step
 use Rattle.node_device.specs.File.{IsAtRest}
 use Rattle.node_device.specs.DeviceState.{DeviceState}
+use Rattle.node_device.specs.Calls.{Crashes}
 use Rattle.gated_record.specs.PairStages.{IsPairStage, PairLeaves, IsOldOrWanted}
 use Rattle.gated_record.specs.declared.pair.PairValue.{PairValue}
 use Rattle.scr_base.specs.declared.answers.Refusal.{Refusal}
@@ -18,20 +19,21 @@ use Rattle.ckpt_model.specs.Dataset.{Dataset}
 use Rattle.ckpt_model.specs.declared.event.Event.TheVariants as event
 use Rattle.ckpt_model.specs.declared.event.StopCause.{StopCause}
 use Rattle.ckpt_model.specs.declared.event.StopCause.TheVariants as stops
-use Rattle.site_core.specs.Left.{LeavesSaved, NoneSealed, LeavesKept, LeavesPrefix, NoLater, IsPlain, is_sealing_work}
+use Rattle.site_core.specs.Calls.{Tells}
+use Rattle.site_core.specs.Left.{LeavesSaved, NoneSealed, is_sealing_work}
 use Rattle.site_core.specs.Numbers.{IsNumberFile}
 use Rattle.site_core.specs.declared.core_state.Drop.{Drop}
 use Rattle.site_core.specs.declared.core_state.Drop.TheVariants as drop
 use Rattle.member_store.specs.Calls.{IsDropStage}
 use Rattle.member_store.specs.Names.{record_name, IsPlace, IsNameOf}
 use Rattle.ckpt_model.specs.Machine.{Machine, Setup, Stage as Place}
-use Rattle.ckpt_model.specs.Legal.{IsRunOf, AreOfPrograms, begins_run, is_stop}
-use Rattle.ckpt_model.specs.Legal.Place.{AtEnd}
+use Rattle.ckpt_model.specs.Legal.{AreOfPrograms, begins_run, is_stop}
 use Rattle.ckpt_model.specs.Runs.{RunsTo}
-use Rattle.ckpt_model.specs.Stops.{may_stop, may_make}
-use Rattle.ckpt_model.specs.Moves.{after}
+use Rattle.ckpt_model.specs.Stops.{Choice, may_choose, after_stop}
 use Rattle.ckpt_model.specs.declared.event.Event.{Event}
 use Rattle.round_core.specs.Seats.{fresh_seat, is_complete, first_call, seat_is_valid}
+use Rattle.site_stands.specs.Described.{is_single}
+use Rattle.site_stands.specs.Site.{IsSafeToStop}
 use Rattle.site_core.specs.declared.cache.Cached.{Cached}
 use Rattle.site_core.specs.declared.cache.Manifest.{Manifest}
 use Rattle.site_core.specs.declared.cache.Mark.TheVariants as mark
@@ -40,9 +42,9 @@ use Rattle.site_core.specs.declared.core_state.Stage.{Stage}
 use Rattle.site_core.specs.declared.core_state.Stage.TheVariants as stage
 use Rattle.site_core.specs.declared.core_state.Work.{Work}
 use Rattle.site_core.specs.declared.core_state.Work.TheVariants as work
-use Rattle.site_core.specs.Shown.{running, stopped, begun, setup_of, kept_of, mends}
-use Rattle.site_core.specs.Choosing.{verdict_of, AscendFrom, seals, is_at_rest, is_being_sealed}
-use Rattle.site_core.specs.Stored.{IsKnown, IsAmong, Cells, cells_of, contents_of, contents_in, file_name, FilesStand, RecordsStand, RecordIs, NoOtherRecords, NoFutureFiles, IsOfSite, IsWell, FilesHold, stored_run, stored_halt, run_number}
+use Rattle.site_core.specs.Shown.{running, begun, setup_of, kept_of, mends}
+use Rattle.site_core.specs.Choosing.{verdict_of, AscendFrom, seals, is_being_sealed}
+use Rattle.site_core.specs.Stored.{IsKnown, IsAmong, Cells, cells_of, contents_of, contents_in, file_name, FilesStand, RecordsStand, RecordIs, NoOtherRecords, NoFutureFiles, IsOfSite, IsUnindexed, IsWell, FilesHold, stored_run, stored_halt, run_number}
 
 -- ## Between two runs
 
@@ -68,8 +70,10 @@ pub record StoreHolds (s : Setup) (cells : Cells) (run : ℕ) (sets : List Manif
 abbrev pub IsQuiet : (ℕ → DeviceState) → Type 0
 IsQuiet states = (p : ℕ) (q : List ℕ) → p ≤ 32 → IsAtRest ((states p).file q)
 
--- between two runs the devices stand for this state
-pub record StandsFor (s : Setup) (states : ℕ → DeviceState) (m : Machine) : Type 0 where
+-- What a run can begin over today, beside that the devices stand for the state: its datasets are kept without copies and stand whole and
+-- sealed, each node in its place; nothing is indexed or marked; and no other record is there, on any device of the bay.
+pub record CanBegin (s : Setup) (states : ℕ → DeviceState) (m : Machine) : Type 0 where
+  pub single : is_single s.config.scheme ≡ true
   pub sets : List Manifest
   pub quiet : IsQuiet states
   pub store : StoreHolds s (cells_of states) m.run sets
@@ -78,11 +82,13 @@ pub record StandsFor (s : Setup) (states : ℕ → DeviceState) (m : Machine) : 
   pub index : m.index ≡ []
   pub halt : m.halt ≡ stored_halt (cells_of states)
   pub mark_is : m.mark ≡ None
+  pub unindexed : IsUnindexed (cells_of states 32)
 
 -- ## Within a run
 
 -- no call was made in this run
 pub record IsFresh (c : Core) : Type 0 where
+  pub single : is_single c.config.scheme ≡ true
   pub places : c.places ≡ numbers_below c.shape.nodes
   pub phase_is : c.phase ≡ phase.Idle
   pub offer : c.offer ≡ None
@@ -95,7 +101,7 @@ pub record IsFresh (c : Core) : Type 0 where
 -- nothing was done
 pub record IsBegun (c : Core) (states : ℕ → DeviceState) (m : Machine) : Type 0 where
   pub fresh : IsFresh c
-  pub stands : StandsFor (setup_of c) states m
+  pub begins : CanBegin (setup_of c) states m
 
 -- the number of the run is on its way; all else is as it was
 pub record IsStoring (c : Core) (states : ℕ → DeviceState) (m : Machine) : Type 0 where
@@ -118,6 +124,7 @@ pub record IsStoring (c : Core) (states : ℕ → DeviceState) (m : Machine) : T
   pub index : m.index ≡ []
   pub halt : m.halt ≡ conditions c.halt
   pub halted : stored_halt (cells_of states) ≡ conditions c.halt
+  pub unindexed : IsUnindexed (cells_of states 32)
   pub mark_is : m.mark ≡ None
   pub run : c.run ≡ m.run + 1
   pub fits : c.run < 2 ^ 32
@@ -130,6 +137,7 @@ pub record IsLooking (c : Core) (states : ℕ → DeviceState) (m : Machine) : T
   pub quiet : IsQuiet states
   pub store : StoreHolds (setup_of c) (cells_of states) c.run sets
   pub halted : stored_halt (cells_of states) ≡ conditions c.halt
+  pub unindexed : IsUnindexed (cells_of states 32)
   pub runs : (x : Manifest) → IsOneOf sets x → x.desc.which.run < c.run
   pub future : NoFutureFiles (cells_of states) c.run 0
   pub is : m ≡ begun c next (map (kept_of (setup_of c) (contents_of (cells_of states) c) c.places) (map settled_set sets))
@@ -261,6 +269,7 @@ pub record IsLeavingAt (gone settled : ℕ → Bool) (c : Core) (states : ℕ �
   pub well : IsWell c
   pub stored : stored_run (cells_of states) ≡ c.run
   pub halted : stored_halt (cells_of states) ≡ conditions c.halt
+  pub unindexed : IsUnindexed (cells_of states 32)
   pub files : (x : Manifest) → IsAmong c.kept x → FilesStand (cells_of states) c.places c.shape.ranks x
   pub records : (i : ℕ) (x : Cached) → slice_get c.kept i ≡ Some x → RecordsStand (cells_of states) c.places x.manifest
   pub others : NoOtherRecords (IsKnown c) (cells_of states) c.places
@@ -292,19 +301,6 @@ pub record IsDropping (d : Drop) (n : ℕ) (c : Core) (states : ℕ → DeviceSt
 abbrev pub IsDropped : Core → (ℕ → DeviceState) → Machine → Type 0
 IsDropped = IsLeavingAt (λ node. true) (λ node. true)
 
--- the run is over: nothing but the files of an open dataset may be pending, and each dataset in cache is settled
-pub record IsOver (c : Core) (states : ℕ → DeviceState) (m : Machine) : Type 0 where
-  pub is : m ≡ stopped (contents_of (cells_of states) c) c
-  pub well : IsWell c
-  pub files : FilesHold c (cells_of states)
-  pub quiet : (p : ℕ) (q : List ℕ) → p ≤ 32 → (p < c.shape.nodes → IsPending stage.Serving c q → ⊥) → IsAtRest ((states p).file q)
-  pub unrecorded : NoRecordYet stage.Serving c (cells_of states)
-  pub settled : list_all (λ (x : Cached). is_at_rest x.mark) c.kept ≡ true
-
--- the run is over: its memory and the devices stand for the state, or the run never began and the devices alone do
-abbrev pub HasRest : Setup → (ℕ → DeviceState) → Machine → Type 0
-HasRest s states m = StandsFor s states m ⊎ ((c : Core) × (setup_of c ≡ s) × IsOver c states m)
-
 -- what holds at a stage
 abbrev pub HoldsAt : Stage → Core → (ℕ → DeviceState) → Machine → Type 0
 HoldsAt stage.Begun c states m = IsBegun c states m
@@ -312,8 +308,7 @@ HoldsAt stage.Storing c states m = IsStoring c states m
 HoldsAt stage.Looking c states m = IsLooking c states m
 HoldsAt (stage.Dropping d n) c states m = IsDropping d n c states m
 HoldsAt stage.Dropped c states m = IsDropped c states m
-HoldsAt stage.Stopped c states m = HasRest (setup_of c) states m
-HoldsAt stage.Cut c states m = Unit {0}
+HoldsAt stage.Over c states m = Unit {0}
 HoldsAt _ c states m = IsUp c states m
 
 -- the events so far of a run that has begun and isn't over
@@ -322,51 +317,47 @@ pub record IsSoFar (places : List ℕ) (programs : List (List Step)) (events : L
   pub steps : AreOfPrograms programs events
   pub goes_on : IsTrue (list_all (λ e. not (is_stop e)) events)
 
--- the run's end came by a device, or from outside
-abbrev pub is_cut : StopCause → Bool
-is_cut (stops.Device node count) = true
-is_cut (stops.Full node used capacity) = true
-is_cut stops.Script = true
-is_cut _ = false
-
--- the events are those of a run whose end came so
-pub record IsCutRun (places : List ℕ) (programs : List (List Step)) (events : List Event) : Type 0 where
-  pub front : List Event
-  pub cause : StopCause
-  pub is : events ≡ front ++ event.Stop cause ∷ []
-  pub cut : is_cut cause ≡ true
-  pub begin : IsTrue (begins_run places events)
-  pub steps : AreOfPrograms programs events
-  pub goes_on : IsTrue (list_all (λ e. not (is_stop e)) front)
+-- the run came to an end by itself: neither a device ended it, nor somebody from outside
+abbrev pub goes_well : StopCause → Bool
+goes_well (stops.Device node count) = false
+goes_well (stops.Full node used capacity) = false
+goes_well stops.Script = false
+goes_well _ = true
 
 -- the events are those of the run, as far as it has come
 abbrev pub ToldAt : Stage → List ℕ → List (List Step) → List Event → Type 0
 ToldAt stage.Begun places programs events = events ≡ []
 ToldAt stage.Storing places programs events = events ≡ []
-ToldAt stage.Stopped places programs events = IsRunOf places programs AtEnd events
-ToldAt stage.Cut places programs events = IsCutRun places programs events
+ToldAt stage.Over places programs events = Unit {0}
 ToldAt _ places programs events = IsSoFar places programs events
 
--- Before its end the run had come to a state that allows it. With the first change of a gate that the device may have made though it
--- refused it, if there is one, the datasets that the machine then keeps are left so, whatever a stop leaves.
-pub record HasLeft (s : Setup) (first : Machine) (places : List ℕ) (states : ℕ → DeviceState) (events : List Event) : Type 0 where
+-- a stop of the devices leaves them so, and they tell what they hold
+pub record IsStopOf (states left : ℕ → DeviceState) : Type 0 where
+  pub crashes : (p : ℕ) → p ≤ 32 → Crashes (states p) (left p)
+  pub tells : Tells left
+
+-- whatever a stop by this cause leaves, a run can begin over it again
+abbrev pub LetsBegin : Setup → (ℕ → DeviceState) → StopCause → Machine → Type 0
+LetsBegin s states why m = (c : Choice) → IsTrue (may_choose s m why c) → (left : ℕ → DeviceState) → IsStopOf states left → CanBegin s left (after_stop s m c)
+
+-- How a run is closed. Its events lead, by steps of the machine, to a state before its Stop, and a stop by that cause is safe there: whatever
+-- it leaves stands for a state after it. Where the run ended by itself, a run can begin over that again.
+pub record Closes (s : Setup) (states : ℕ → DeviceState) (first : Machine) (places : List ℕ) (programs : List (List Step)) (events : List Event) : Type 0 where
   pub front : List Event
-  pub cause : StopCause
-  pub is : events ≡ front ++ event.Stop cause ∷ []
+  pub why : StopCause
+  pub is : events ≡ front ++ event.Stop why ∷ []
   pub before : Machine
   pub run : RunsTo s first front before
-  pub made : List Event
-  pub may : IsTrue (may_stop before cause && may_make s before cause made)
-  pub same_run : (fold (after s) before made).run ≡ before.run
-  pub leaves : LeavesKept s places states (fold (after s) before made)
-  pub prefix : LeavesPrefix (states 32) before
-  pub later : NoLater states before.run
-  pub plain : IsPlain before
+  pub safe : IsSafeToStop s states why before
+  pub well : goes_well why ≡ true → LetsBegin s states why before
+  pub begin : IsTrue (begins_run places events)
+  pub steps : AreOfPrograms programs events
+  pub goes_on : IsTrue (list_all (λ e. not (is_stop e)) front)
 
--- what is left of a run that was cut
-abbrev pub LeftAt : Stage → Setup → Machine → List ℕ → (ℕ → DeviceState) → List Event → Type 0
-LeftAt stage.Cut s first places states events = HasLeft s first places states events
-LeftAt _ s first places states events = Unit {0}
+-- once it is over
+abbrev pub ClosesAt : Stage → Setup → Machine → List ℕ → List (List Step) → (ℕ → DeviceState) → List Event → Type 0
+ClosesAt stage.Over s first places programs states events = Closes s states first places programs events
+ClosesAt _ s first places programs states events = Unit {0}
 
 -- the history leads from a state to one for which the run's memory and files stand
 pub record Leads (first : Machine) (c : Core) (programs : List (List Step)) (states : ℕ → DeviceState) (events : List Event) : Type 0 where
@@ -374,7 +365,7 @@ pub record Leads (first : Machine) (c : Core) (programs : List (List Step)) (sta
   pub run : RunsTo (setup_of c) first events state
   pub holds : HoldsAt c.stage c states state
   pub told : ToldAt c.stage c.places programs events
-  pub left : LeftAt c.stage (setup_of c) first c.places states events
+  pub closes : ClosesAt c.stage (setup_of c) first c.places programs states events
 
 -- what is known of a run while a dataset is being saved
 pub record IsSaving (first : Machine) (c : Core) (programs : List (List Step)) (states : ℕ → DeviceState) (events : List Event) (w : Work) (n : ℕ) (m : Manifest) : Type 0 where

@@ -6,6 +6,7 @@ use Rattle.node_device.specs.File.{IsAtRest}
 use Rattle.node_device.specs.DeviceState.{DeviceState, IsOutcome}
 use Rattle.gated_record.specs.Record.{IsOpen}
 use Rattle.gated_record.specs.Pair.{pair_value}
+use Rattle.gated_record.specs.PairStages.{PairLeaves}
 use Rattle.halt_file.specs.Stores.{halt_in}
 use Rattle.gate_outcomes.specs.Leaves.{Leaves}
 use Rattle.gate_outcomes.specs.Gates.{StaysShut, StaysOpen, StaysWhole}
@@ -15,6 +16,7 @@ use Rattle.member_store.specs.Names.{record_name, IsPlace}
 use Rattle.member_store.specs.Members.{member_body}
 use Rattle.ckpt_model.specs.Machine.{Machine, Setup, Pending}
 use Rattle.ckpt_model.specs.Stops.{may_store, pending_of}
+use Rattle.site_stands.specs.Entry.{entry_name, ReadsEntry, mark_in}
 use Rattle.site_core.specs.declared.cache.Cached.{Cached}
 use Rattle.site_core.specs.declared.cache.Manifest.{Manifest}
 use Rattle.site_core.specs.declared.core_state.Work.{Work}
@@ -92,6 +94,11 @@ pub record PrefixLeft (m : Machine) (left : List ℕ → Option (List ℕ)) : Ty
 pub record IsPlain (m : Machine) : Type 0 where
   pub mark : m.mark ≡ None
   pub pending : pending_of m.stage ≡ Pending.Nothing
+
+-- whatever a stop leaves of the prefix, no index record reads and no mark is told
+pub record LeavesUnindexed (disk : DeviceState) : Type 0 where
+  pub entries : (which : DataId) → Leaves (disk.file (entry_name which)) (λ o. ReadsEntry o which → ⊥)
+  pub unmarked : PairLeaves (codes "cur") disk (λ v. mark_in v ≡ None)
 
 -- no record of a later run is left
 abbrev pub NoLater : (ℕ → DeviceState) → ℕ → Type 0

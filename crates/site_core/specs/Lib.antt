@@ -14,6 +14,7 @@ pub mod Causes
 pub mod Steps
 pub mod Writes
 pub mod Follows
+pub mod Faults
 pub mod Asking
 pub mod Ahead
 pub mod Order

@@ -1,6 +1,8 @@
 -- The readings of a clock that a history tells.
-use Rattle.std.specs.Prelude.{◌≡◌, ℕ, List, [], ◌∷◌, ◌++◌, filter_map, Option, None, Some, option_map, IfSome}
+use Rattle.std.specs.Prelude.{◌≡◌, ℕ, not, Bool, List, [], ◌∷◌, ◌++◌, filter_map, Option, None, Some, option_map, IfSome, IsTrue}
+use Rattle.std.specs.List.{list_all}
 use Rattle.scr_base.specs.Streams.{counted}
+use Rattle.ckpt_model.specs.Legal.{is_script_stop}
 use Rattle.ckpt_model.specs.declared.event.Event.{Event}
 use Rattle.ckpt_model.specs.declared.event.Event.TheVariants as event
 
@@ -27,8 +29,13 @@ pub record TellsReadings (before after : Option ℕ) (events : List Event) : Typ
   pub readings : AreReadings before (times_of events)
   pub next : after ≡ next_after before (times_of events)
 
--- these events came behind those, and tell what was read of the clock meanwhile
+-- no run is ended from outside
+abbrev pub is_inside : Event → Bool
+is_inside e = not (is_script_stop e)
+
+-- these events came behind those, and tell what was read of the clock meanwhile; none of them ends a run from outside
 pub record TellsTimes (before after : Option ℕ) (old new : List Event) : Type 0 where
   pub told : List Event
   pub is : new ≡ old ++ told
   pub tells : TellsReadings before after told
+  pub inside : IsTrue (list_all is_inside told)

@@ -18,6 +18,8 @@ use Rattle.filemap.specs.declared.rows.FileRow.{FileRow}
 use Rattle.member_store.specs.Names.{record_name, part_name, IsPlace}
 use Rattle.member_store.specs.Members.{member_body}
 use Rattle.member_store.specs.declared.part.Part.TheVariants.{File}
+use Rattle.site_stands.specs.Described.{is_single}
+use Rattle.site_stands.specs.Entry.{entry_name, ReadsEntry, mark_in}
 use Rattle.site_core.specs.declared.cache.Cached.{Cached}
 use Rattle.site_core.specs.declared.cache.Manifest.{Manifest}
 use Rattle.site_core.specs.declared.core_state.Core.{Core}
@@ -111,13 +113,19 @@ stored_run cells = run_number (pair_value (codes "run") (cells 32))
 abbrev pub stored_halt : Cells → Halt
 stored_halt cells = halt_in (pair_value (codes "halt") (cells 32))
 
--- a dataset of this site, by a run so far
+-- no index record reads, and no mark is told
+pub record IsUnindexed (files : List ℕ → Option (List ℕ)) : Type 0 where
+  pub entries : (which : DataId) → ReadsEntry (files (entry_name which)) which → ⊥
+  pub unmarked : mark_in (pair_value (codes "cur") files) ≡ None
+
+-- a dataset of this site, by a run so far, kept without copies
 pub record IsOfSite (shape : Shape) (run : ℕ) (m : Manifest) : Type 0 where
   pub named : IsTrue (is_name m.desc.name)
   pub nodes : m.desc.nodes ≡ shape.nodes
   pub ranks : m.desc.ranks ≡ shape.ranks
   pub files : IsMap (shape.nodes * shape.ranks) m.files
   pub run_is : m.desc.which.run ≤ run
+  pub single : is_single m.desc.scheme ≡ true
 
 -- what a run's memory keeps
 pub record IsWell (c : Core) : Type 0 where
@@ -130,11 +138,13 @@ pub record IsWell (c : Core) : Type 0 where
   pub opened_last : (m : Manifest) → c.opened ≡ Some m → AreBelow m.desc.which.id c.kept
   pub output : (m : Manifest) → c.opened ≡ Some m → c.phase ≡ phase.Output
   pub ranks : length c.ranks ≡ c.shape.nodes * c.shape.ranks
+  pub single : is_single c.config.scheme ≡ true
 
 -- the files of a run that is up, by what reads give; of what is being sealed the records are spoken of elsewhere
 pub record FilesHold (c : Core) (cells : Cells) : Type 0 where
   pub stored : stored_run cells ≡ c.run
   pub halted : stored_halt cells ≡ conditions c.halt
+  pub unindexed : IsUnindexed (cells 32)
   pub files : (m : Manifest) → IsKnown c m → FilesStand cells c.places c.shape.ranks m
   pub records : (i : ℕ) (x : Cached) → slice_get c.kept i ≡ Some x → is_being_sealed x.mark ≡ false → RecordsStand cells c.places x.manifest
   pub others : NoOtherRecords (IsKnown c) cells c.places

@@ -23,8 +23,7 @@ use Rattle.site_core.specs.Choosing.{verdict_of, is_to_save, is_to_drop, due_in}
 
 -- the run is over
 abbrev pub is_over : Stage → Bool
-is_over stage.Stopped = true
-is_over stage.Cut = true
+is_over stage.Over = true
 is_over _ = false
 
 -- how many syncs and gate writes are left until the dataset is settled, on so many nodes
@@ -88,8 +87,7 @@ rank_turn stage.Serving c programs rank = serving_turn c programs rank (slice_ge
 rank_turn (stage.Saving work node) c programs rank = NotYet (why.Encode (changes_left work node c.shape.nodes))
 rank_turn (stage.Dropping drop node) c programs rank = NotYet (why.Evict c.removal.which.id)
 rank_turn stage.Dropped c programs rank = Moved
-rank_turn stage.Stopped c programs rank = Ended
-rank_turn stage.Cut c programs rank = Ended
+rank_turn stage.Over c programs rank = Ended
 rank_turn _ c programs rank = NotYet why.Recover
 
 -- ## The turns of the others
@@ -99,27 +97,23 @@ recoverer_turn stage.Begun = Moved
 recoverer_turn stage.Storing = Moved
 recoverer_turn stage.Looking = Moved
 recoverer_turn stage.Mending = Moved
-recoverer_turn stage.Stopped = Ended
-recoverer_turn stage.Cut = Ended
+recoverer_turn stage.Over = Ended
 recoverer_turn _ = NotYet why.Idle
 
 abbrev pub encoder_turn : Stage → Core → Turn
 encoder_turn stage.Serving c = if is_to_save c then Moved else NotYet why.Idle
 encoder_turn (stage.Saving work node) c = Moved
-encoder_turn stage.Stopped c = Ended
-encoder_turn stage.Cut c = Ended
+encoder_turn stage.Over c = Ended
 encoder_turn _ c = NotYet why.Idle
 
 abbrev pub evictor_turn : Stage → Core → Turn
 evictor_turn stage.Serving c = if is_to_drop c then Moved else NotYet why.Idle
 evictor_turn (stage.Dropping drop node) c = Moved
-evictor_turn stage.Stopped c = Ended
-evictor_turn stage.Cut c = Ended
+evictor_turn stage.Over c = Ended
 evictor_turn _ c = NotYet why.Idle
 
 abbrev pub flusher_turn : Stage → Turn
-flusher_turn stage.Stopped = Ended
-flusher_turn stage.Cut = Ended
+flusher_turn stage.Over = Ended
 flusher_turn _ = NotYet why.Idle
 
 -- what a turn comes to: a move, or the reason why there is none

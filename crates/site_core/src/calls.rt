@@ -35,7 +35,7 @@ impl<D: Device> Site<D> {
         ensures calm { OnErr result (IsCalm (states_of D.state self.old.bay) (states_of D.state self.new.bay)) }
         ensures accounted { OnOk result (TellsFaults D.state self.old self.new) }
         ensures kept { OnOk result (KeepsCarried self.old self.new) }
-        ensures fixed { IsSameRun self.old self.new }
+        ensures fixed { IsSameRun D.state self.old self.new }
         ensures still { IfOk result (λ turn. Stays turn self.old self.new) }
         ensures waits { IfOk result (λ turn. turn ≡ rank_turn self.old.core.stage self.old.core self.old.programs rank) }
     {
@@ -52,7 +52,7 @@ impl<D: Device> Site<D> {
                 },
             }),
             Stage::Dropped => self.decide_dropped(),
-            Stage::Stopped | Stage::Cut => Ok(Turn::Ended),
+            Stage::Over => Ok(Turn::Ended),
             _ => Ok(Turn::NotYet { why: Why::Recover }),
         }
     }
@@ -68,7 +68,7 @@ impl<D: Device> Site<D> {
         ensures refused { OnErr result (self.new.history.events ≡ self.old.history.events) }
         ensures calm { OnErr result (IsCalm (states_of D.state self.old.bay) (states_of D.state self.new.bay)) }
         ensures accounted { OnOk result (TellsFaults D.state self.old self.new) }
-        ensures fixed { IsSameRun self.old self.new }
+        ensures fixed { IsSameRun D.state self.old self.new }
         ensures still { IfOk result (λ turn. Stays turn self.old self.new) }
         ensures waits { IfOk result (λ turn. turn ≡ serving_turn self.old.core self.old.programs rank (slice_get self.old.core.ranks rank)) }
     {
@@ -92,7 +92,7 @@ impl<D: Device> Site<D> {
         ensures refused { OnErr result (self.new.history.events ≡ self.old.history.events) }
         ensures calm { OnErr result (IsCalm (states_of D.state self.old.bay) (states_of D.state self.new.bay)) }
         ensures accounted { OnOk result (TellsFaults D.state self.old self.new) }
-        ensures fixed { IsSameRun self.old self.new }
+        ensures fixed { IsSameRun D.state self.old self.new }
         ensures still { IfOk result (λ turn. Stays turn self.old self.new) }
         ensures waits { IfOk result (λ turn. turn ≡ round_turn self.old.core (position is_missing self.old.core.ranks)) }
     {
@@ -114,7 +114,7 @@ impl<D: Device> Site<D> {
         ensures refused { OnErr result (self.new.history.events ≡ self.old.history.events) }
         ensures calm { OnErr result (IsCalm (states_of D.state self.old.bay) (states_of D.state self.new.bay)) }
         ensures accounted { OnOk result (TellsFaults D.state self.old self.new) }
-        ensures fixed { IsSameRun self.old self.new }
+        ensures fixed { IsSameRun D.state self.old self.new }
         ensures still { IfOk result (λ turn. Stays turn self.old self.new) }
         ensures moved { IfOk result (λ turn. turn ≡ Turn.Moved) }
     {
@@ -146,7 +146,7 @@ impl<D: Device> Site<D> {
         ensures refused { OnErr result (self.new.history.events ≡ self.old.history.events) }
         ensures calm { OnErr result (IsCalm (states_of D.state self.old.bay) (states_of D.state self.new.bay)) }
         ensures accounted { OnOk result (TellsFaults D.state self.old self.new) }
-        ensures fixed { IsSameRun self.old self.new }
+        ensures fixed { IsSameRun D.state self.old self.new }
         ensures still { IfOk result (λ turn. Stays turn self.old self.new) }
         ensures waits { IfOk result (λ turn. (seat : Seat) → slice_get self.old.core.ranks rank ≡ Some seat → turn ≡ free_turn seat.ended (slice_get (unwrap_or (slice_get self.old.programs rank) []) seat.number)) }
     {
@@ -181,7 +181,7 @@ impl<D: Device> Site<D> {
         ensures refused { OnErr result (self.new.history.events ≡ self.old.history.events) }
         ensures calm { OnErr result (IsCalm (states_of D.state self.old.bay) (states_of D.state self.new.bay)) }
         ensures accounted { OnOk result (TellsFaults D.state self.old self.new) }
-        ensures fixed { IsSameRun self.old self.new }
+        ensures fixed { IsSameRun D.state self.old self.new }
         ensures still { IfOk result (λ turn. Stays turn self.old self.new) }
         ensures moved { IfOk result (λ turn. turn ≡ Turn.Moved) }
     {
@@ -208,7 +208,7 @@ impl<D: Device> Site<D> {
         ensures refused { OnErr result (self.new.history.events ≡ self.old.history.events) }
         ensures calm { OnErr result (IsCalm (states_of D.state self.old.bay) (states_of D.state self.new.bay)) }
         ensures accounted { OnOk result (TellsFaults D.state self.old self.new) }
-        ensures fixed { IsSameRun self.old self.new }
+        ensures fixed { IsSameRun D.state self.old self.new }
         ensures still { IfOk result (λ turn. Stays turn self.old self.new) }
         ensures moved { IfOk result (λ turn. turn ≡ Turn.Moved) }
     {

@@ -5,7 +5,7 @@ ghost use Rattle.scr_base.specs.Calls.{asks_time};
 ghost use Rattle.site_core.specs.Choosing.{is_needed, wants_reading};
 ghost use Rattle.site_core.specs.Ahead.{ahead};
 ghost use Rattle.site_core.specs.Order.{KeepsOrder};
-ghost use Rattle.site_core.specs.Follows.{Keeps, IsSameRun, IsTold, KeepsCarried};
+ghost use Rattle.site_core.specs.Follows.{KeepsRun, IsSameRun, IsTold, KeepsCarried};
 
 use crate::core_state::{Core, Stage};
 use crate::error::SiteError;
@@ -58,13 +58,13 @@ impl<D: Device> Site<D> {
     /// Tells the round the time, in seconds, which is the clock's next reading. Want of memory leaves all as before.
     pub fn tell_time(&mut self, now: u64) -> Result<(), SiteError>
         requires { wants_reading self.old.core ≡ true }
-        ensures run { OnOk result (Keeps D.state self.old self.new) }
+        ensures run { OnOk result (KeepsRun D.state self.old self.new) }
         ensures lowers { OnOk result (ahead self.new.core self.new.programs < ahead self.old.core self.old.programs) }
         ensures order { KeepsOrder self.old self.new }
         ensures told { OnOk result (IsTold now self.old self.new) }
         ensures refused { OnErr result (self.new ≡ self.old) }
         ensures kept { KeepsCarried self.old self.new }
-        ensures fixed { IsSameRun self.old self.new }
+        ensures fixed { IsSameRun D.state self.old self.new }
     {
         let moves = self.moves;
         if moves == u64::MAX {

@@ -53,10 +53,8 @@ pub enum Stage {
     Dropping { drop: Drop, node: u8 },
     /// They are removed, and the round is to be decided.
     Dropped,
-    /// The run is over, at its end or for want of a number.
-    Stopped,
-    /// The run is over, since a device failed or was full.
-    Cut,
+    /// The run is over: its Stop was told.
+    Over,
 }
 
 /// The state of a run.

@@ -29,7 +29,7 @@ impl<D: Device> Site<D> {
         ensures calm { OnErr result (IsCalm (states_of D.state self.old.bay) (states_of D.state self.new.bay)) }
         ensures accounted { OnOk result (TellsFaults D.state self.old self.new) }
         ensures kept { OnOk result (KeepsCarried self.old self.new) }
-        ensures fixed { IsSameRun self.old self.new }
+        ensures fixed { IsSameRun D.state self.old self.new }
         ensures still { IfOk result (λ turn. Stays turn self.old self.new) }
         ensures waits { IfOk result (λ turn. turn ≡ evictor_turn self.old.core.stage self.old.core) }
     {
@@ -42,7 +42,7 @@ impl<D: Device> Site<D> {
             | Stage::Mending
             | Stage::Saving { .. }
             | Stage::Dropped => Ok(Turn::NotYet { why: Why::Idle }),
-            Stage::Stopped | Stage::Cut => Ok(Turn::Ended),
+            Stage::Over => Ok(Turn::Ended),
         }
     }
 
@@ -56,7 +56,7 @@ impl<D: Device> Site<D> {
         ensures refused { OnErr result (self.new.history.events ≡ self.old.history.events) }
         ensures calm { OnErr result (IsCalm (states_of D.state self.old.bay) (states_of D.state self.new.bay)) }
         ensures accounted { OnOk result (TellsFaults D.state self.old self.new) }
-        ensures fixed { IsSameRun self.old self.new }
+        ensures fixed { IsSameRun D.state self.old self.new }
         ensures still { IfOk result (λ turn. Stays turn self.old self.new) }
         ensures waits { IfOk result (λ turn. turn ≡ (if is_to_drop self.old.core then Turn.Moved else Turn.NotYet Why.Idle)) }
     {
@@ -79,7 +79,7 @@ impl<D: Device> Site<D> {
         ensures calm { OnErr result (IsCalm (states_of D.state self.old.bay) (states_of D.state self.new.bay)) }
         ensures accounted { OnOk result (TellsFaults D.state self.old self.new) }
         ensures kept { OnOk result (KeepsCarried self.old self.new) }
-        ensures fixed { IsSameRun self.old self.new }
+        ensures fixed { IsSameRun D.state self.old self.new }
         ensures still { IfOk result (λ turn. Stays turn self.old self.new) }
         ensures moved { IfOk result (λ turn. turn ≡ Turn.Moved) }
     {
@@ -100,7 +100,7 @@ impl<D: Device> Site<D> {
         ensures calm { OnErr result (IsCalm (states_of D.state self.old.bay) (states_of D.state self.new.bay)) }
         ensures accounted { OnOk result (TellsFaults D.state self.old self.new) }
         ensures kept { OnOk result (KeepsCarried self.old self.new) }
-        ensures fixed { IsSameRun self.old self.new }
+        ensures fixed { IsSameRun D.state self.old self.new }
         ensures still { IfOk result (λ turn. Stays turn self.old self.new) }
         ensures moved { IfOk result (λ turn. turn ≡ Turn.Moved) }
     {
@@ -132,7 +132,7 @@ impl<D: Device> Site<D> {
         ensures calm { OnErr result (IsCalm (states_of D.state self.old.bay) (states_of D.state self.new.bay)) }
         ensures accounted { OnOk result (TellsFaults D.state self.old self.new) }
         ensures kept { OnOk result (KeepsCarried self.old self.new) }
-        ensures fixed { IsSameRun self.old self.new }
+        ensures fixed { IsSameRun D.state self.old self.new }
         ensures still { IfOk result (λ turn. Stays turn self.old self.new) }
         ensures moved { IfOk result (λ turn. turn ≡ Turn.Moved) }
     {
@@ -160,7 +160,7 @@ impl<D: Device> Site<D> {
         ensures calm { OnErr result (IsCalm (states_of D.state self.old.bay) (states_of D.state self.new.bay)) }
         ensures accounted { OnOk result (TellsFaults D.state self.old self.new) }
         ensures kept { OnOk result (KeepsCarried self.old self.new) }
-        ensures fixed { IsSameRun self.old self.new }
+        ensures fixed { IsSameRun D.state self.old self.new }
         ensures still { IfOk result (λ turn. Stays turn self.old self.new) }
         ensures moved { IfOk result (λ turn. turn ≡ Turn.Moved) }
     {

@@ -6,7 +6,7 @@ ghost use Rattle.gated_record.specs.PairSteps.{StepsPair};
 ghost use Rattle.member_store.specs.Calls.{gate_number};
 ghost use Rattle.member_store.specs.Names.{record_name, part_name};
 ghost use Rattle.member_store.specs.Members.{AreMembers, member_body};
-ghost use Rattle.site_core.specs.Calls.{Same, Written, Synced, Recorded, Turned, Refused, Unrecorded, Unturned, Unnumbered, KeptAlike, FileDropped};
+ghost use Rattle.site_core.specs.Calls.{TellsAlike, Same, Written, Synced, Recorded, Turned, Refused, Unrecorded, Unturned, Unnumbered, KeptAlike, FileDropped};
 ghost use Rattle.site_core.specs.Causes.{CallCause};
 ghost use Rattle.site_core.specs.Writes.{IsWrite, IsNoWrite, PassesOn, WayWrites, MayWayWrite};
 ghost use Rattle.halt_file.specs.Conditions.{conditions};
@@ -33,6 +33,7 @@ pub(crate) fn last_run<D: Device>(alloc: Global, bay: &mut Bay<D>) -> Result<u32
     ensures refused { OnErr result (OnlyAt 32 KeptAlike (states_of D.state bay.old) (states_of D.state bay.new)) }
     ensures same { OnOk result (OnlyAt 32 Same (states_of D.state bay.old) (states_of D.state bay.new)) }
     ensures cause { CallCause IsNoWrite (states_of D.state bay.old) (states_of D.state bay.new) result }
+    ensures tells { TellsAlike (states_of D.state bay.old) (states_of D.state bay.new) }
 {
     match load_number(alloc, bay) {
         Ok(None) => Ok(0),
@@ -47,6 +48,7 @@ pub(crate) fn halt_now<D: Device>(alloc: Global, bay: &mut Bay<D>) -> Result<Hal
     ensures refused { OnErr result (OnlyAt 32 KeptAlike (states_of D.state bay.old) (states_of D.state bay.new)) }
     ensures same { OnOk result (OnlyAt 32 Same (states_of D.state bay.old) (states_of D.state bay.new)) }
     ensures cause { CallCause IsNoWrite (states_of D.state bay.old) (states_of D.state bay.new) result }
+    ensures tells { TellsAlike (states_of D.state bay.old) (states_of D.state bay.new) }
 {
     match load_halt(alloc, bay) {
         Ok(halt) => Ok(halt),
@@ -65,6 +67,7 @@ pub(crate) fn store_number<D: Device>(
     ensures steps { IfOk result (λ over. OnlyAt 32 (λ a b. StepsPair (codes "run") storing.old.want (Rattle.std.specs.Prelude.Ok over) storing.old.changes storing.new.changes a b) (states_of D.state bay.old) (states_of D.state bay.new)) }
     ensures cause { CallCause (MayWayWrite storing.old) (states_of D.state bay.old) (states_of D.state bay.new) result }
     ensures fits { OnOk result ((p at count : ℕ) → (name : List ℕ) → WayWrites storing.old p name at count → PassesOn (states_of D.state bay.old) p name at count → ⊥) }
+    ensures tells { TellsAlike (states_of D.state bay.old) (states_of D.state bay.new) }
 {
     let used = bay.used_at(32);
     match step_number(alloc, bay, storing) {
@@ -90,6 +93,7 @@ pub(crate) fn members_at<D: Device>(
     ensures same { OnOk result (OnlyAt place Same (states_of D.state bay.old) (states_of D.state bay.new)) }
     ensures refused { OnErr result (OnlyAt place KeptAlike (states_of D.state bay.old) (states_of D.state bay.new)) }
     ensures cause { CallCause IsNoWrite (states_of D.state bay.old) (states_of D.state bay.new) result }
+    ensures tells { TellsAlike (states_of D.state bay.old) (states_of D.state bay.new) }
 {
     match scan_at(alloc, bay, place, shape) {
         Ok(members) => Ok(members),
@@ -112,6 +116,7 @@ pub(crate) fn put_part<D: Device>(
     ensures refused { OnErr result (OnlyAt place (Refused (part_name which node part)) (states_of D.state bay.old) (states_of D.state bay.new)) }
     ensures cause { CallCause (IsWrite place (part_name which node part) at (length bytes.now)) (states_of D.state bay.old) (states_of D.state bay.new) result }
     ensures fits { OnOk result (PassesOn (states_of D.state bay.old) place (part_name which node part) at (length bytes.now) → ⊥) }
+    ensures tells { TellsAlike (states_of D.state bay.old) (states_of D.state bay.new) }
 {
     match write_part_at(bay, place, which, node, part, at, bytes) {
         Ok(()) => Ok(()),
@@ -134,6 +139,7 @@ pub(crate) fn get_part<D: Device>(
     ensures same { OnOk result (OnlyAt place Same (states_of D.state bay.old) (states_of D.state bay.new)) }
     ensures refused { OnErr result (OnlyAt place KeptAlike (states_of D.state bay.old) (states_of D.state bay.new)) }
     ensures cause { CallCause IsNoWrite (states_of D.state bay.old) (states_of D.state bay.new) result }
+    ensures tells { TellsAlike (states_of D.state bay.old) (states_of D.state bay.new) }
 {
     match read_part_at(bay, place, which, node, part, at, into) {
         Ok(()) => Ok(()),
@@ -157,6 +163,7 @@ pub(crate) fn put_member<D: Device>(
     ensures recorded { OnOk result (OnlyAt place (Recorded (record_name desc.now.which node) (member_body desc.now node files.now)) (states_of D.state bay.old) (states_of D.state bay.new)) }
     ensures cause { CallCause (IsWrite place (record_name desc.now.which node) 8 (8 + length (member_body desc.now node files.now))) (states_of D.state bay.old) (states_of D.state bay.new) result }
     ensures fits { OnOk result (PassesOn (states_of D.state bay.old) place (record_name desc.now.which node) 8 (8 + length (member_body desc.now node files.now)) → ⊥) }
+    ensures tells { TellsAlike (states_of D.state bay.old) (states_of D.state bay.new) }
 {
     match write_member_at(alloc, bay, place, node, desc, files) {
         Ok(()) => Ok(()),
@@ -177,6 +184,7 @@ pub(crate) fn put_gate<D: Device>(
     ensures refused { OnErr result (OnlyAt place (Unturned (record_name which node) (gate_number gate)) (states_of D.state bay.old) (states_of D.state bay.new)) }
     ensures cause { CallCause (IsWrite place (record_name which node) (gate_number gate) 1) (states_of D.state bay.old) (states_of D.state bay.new) result }
     ensures fits { OnOk result (PassesOn (states_of D.state bay.old) place (record_name which node) (gate_number gate) 1 → ⊥) }
+    ensures tells { TellsAlike (states_of D.state bay.old) (states_of D.state bay.new) }
 {
     match open_gate_at(bay, place, which, node, gate) {
         Ok(()) => Ok(()),
@@ -190,6 +198,7 @@ pub(crate) fn sync_node<D: Device>(bay: &mut Bay<D>, place: u8) -> Result<(), Tr
     ensures refused { OnErr result (OnlyAt place KeptAlike (states_of D.state bay.old) (states_of D.state bay.new)) }
     ensures synced { OnOk result (OnlyAt place Synced (states_of D.state bay.old) (states_of D.state bay.new)) }
     ensures cause { CallCause IsNoWrite (states_of D.state bay.old) (states_of D.state bay.new) result }
+    ensures tells { TellsAlike (states_of D.state bay.old) (states_of D.state bay.new) }
 {
     match bay.sync_at(place) {
         Ok(()) => Ok(()),
@@ -211,6 +220,7 @@ pub(crate) fn drop_file<D: Device>(
     ensures stays { OnErr result (removal.new ≡ removal.old) }
     ensures refused { OnErr result (OnlyAt place KeptAlike (states_of D.state bay.old) (states_of D.state bay.new)) }
     ensures cause { CallCause IsNoWrite (states_of D.state bay.old) (states_of D.state bay.new) result }
+    ensures tells { TellsAlike (states_of D.state bay.old) (states_of D.state bay.new) }
 {
     match drop_file_at(alloc, bay, place, removal) {
         Ok(over) => Ok(over),

@@ -6,7 +6,7 @@ ghost use Rattle.site_core.specs.Shown.{row_of};
 ghost use Rattle.site_core.specs.Cores.{recovered, seen_core};
 ghost use Rattle.site_core.specs.Looks.{is_standing, found_member};
 ghost use Rattle.site_core.specs.Waiting.{recoverer_turn};
-ghost use Rattle.site_core.specs.Calls.{TellsAll};
+ghost use Rattle.site_core.specs.Calls.{Tells};
 ghost use Rattle.site_core.specs.Stored.{cells_of, stored_run};
 ghost use Rattle.site_core.specs.Ahead.{Lowers};
 ghost use Rattle.site_core.specs.Order.{KeepsOrder};
@@ -45,7 +45,7 @@ impl<D: Device> Site<D> {
         ensures refused { OnErr result (self.new.history.events ≡ self.old.history.events) }
         ensures calm { OnErr result (IsCalm (states_of D.state self.old.bay) (states_of D.state self.new.bay)) }
         ensures accounted { OnOk result (TellsFaults D.state self.old self.new) }
-        ensures fixed { IsSameRun self.old self.new }
+        ensures fixed { IsSameRun D.state self.old self.new }
         ensures still { IfOk result (λ turn. Stays turn self.old self.new) }
         ensures waits { IfOk result (λ turn. turn ≡ recoverer_turn self.old.core.stage) }
     {
@@ -57,7 +57,7 @@ impl<D: Device> Site<D> {
             Stage::Serving | Stage::Saving { .. } | Stage::Dropping { .. } | Stage::Dropped => {
                 Ok(Turn::NotYet { why: Why::Idle })
             }
-            Stage::Stopped | Stage::Cut => Ok(Turn::Ended),
+            Stage::Over => Ok(Turn::Ended),
         }
     }
 
@@ -71,7 +71,7 @@ impl<D: Device> Site<D> {
         ensures refused { OnErr result (self.new.history.events ≡ self.old.history.events) }
         ensures calm { OnErr result (IsCalm (states_of D.state self.old.bay) (states_of D.state self.new.bay)) }
         ensures accounted { OnOk result (TellsFaults D.state self.old self.new) }
-        ensures fixed { IsSameRun self.old self.new }
+        ensures fixed { IsSameRun D.state self.old self.new }
         ensures still { IfOk result (λ turn. Stays turn self.old self.new) }
         ensures moved { IfOk result (λ turn. turn ≡ Turn.Moved) }
     {
@@ -85,7 +85,7 @@ impl<D: Device> Site<D> {
     /// The run has the number after the last one; or it is over where there is none.
     fn take_number(&mut self, last: u32) -> Result<Turn, SiteError>
         requires stage { self.old.core.stage ≡ Stage.Begun }
-        requires last { TellsAll D.state → last ≡ stored_run (cells_of (states_of D.state self.old.bay)) }
+        requires last { Tells (states_of D.state self.old.bay) → last ≡ stored_run (cells_of (states_of D.state self.old.bay)) }
         requires room { 2 ≤ self.old.history.spare }
         ensures run { OnOk result (Keeps D.state self.old self.new) }
         ensures lowers { IfOk result (λ turn. Lowers turn self.old self.new) }
@@ -94,7 +94,7 @@ impl<D: Device> Site<D> {
         ensures refused { OnErr result (self.new.history.events ≡ self.old.history.events) }
         ensures calm { OnErr result (IsCalm (states_of D.state self.old.bay) (states_of D.state self.new.bay)) }
         ensures accounted { OnOk result (TellsFaults D.state self.old self.new) }
-        ensures fixed { IsSameRun self.old self.new }
+        ensures fixed { IsSameRun D.state self.old self.new }
         ensures still { IfOk result (λ turn. Stays turn self.old self.new) }
         ensures moved { IfOk result (λ turn. turn ≡ Turn.Moved) }
     {
@@ -108,7 +108,7 @@ impl<D: Device> Site<D> {
     /// The conditions on which the job is to stop are read, and the run has the number after the last one.
     fn take_halt(&mut self, last: u32) -> Result<Turn, SiteError>
         requires stage { self.old.core.stage ≡ Stage.Begun }
-        requires last { TellsAll D.state → last ≡ stored_run (cells_of (states_of D.state self.old.bay)) }
+        requires last { Tells (states_of D.state self.old.bay) → last ≡ stored_run (cells_of (states_of D.state self.old.bay)) }
         requires more { last < 4294967295 }
         requires room { 2 ≤ self.old.history.spare }
         ensures run { OnOk result (Keeps D.state self.old self.new) }
@@ -118,7 +118,7 @@ impl<D: Device> Site<D> {
         ensures refused { OnErr result (self.new.history.events ≡ self.old.history.events) }
         ensures calm { OnErr result (IsCalm (states_of D.state self.old.bay) (states_of D.state self.new.bay)) }
         ensures accounted { OnOk result (TellsFaults D.state self.old self.new) }
-        ensures fixed { IsSameRun self.old self.new }
+        ensures fixed { IsSameRun D.state self.old self.new }
         ensures still { IfOk result (λ turn. Stays turn self.old self.new) }
         ensures moved { IfOk result (λ turn. turn ≡ Turn.Moved) }
     {
@@ -134,7 +134,7 @@ impl<D: Device> Site<D> {
     /// There is no number left for a run.
     fn run_out_of_numbers(&mut self) -> Result<Turn, SiteError>
         requires stage { self.old.core.stage ≡ Stage.Begun }
-        requires last { TellsAll D.state → stored_run (cells_of (states_of D.state self.old.bay)) ≡ 4294967295 }
+        requires last { Tells (states_of D.state self.old.bay) → stored_run (cells_of (states_of D.state self.old.bay)) ≡ 4294967295 }
         ensures bay { self.new.bay ≡ self.old.bay }
         ensures run { OnOk result (Keeps D.state self.old self.new) }
         ensures lowers { IfOk result (λ turn. Lowers turn self.old self.new) }
@@ -143,7 +143,7 @@ impl<D: Device> Site<D> {
         ensures refused { OnErr result (self.new.history.events ≡ self.old.history.events) }
         ensures calm { OnErr result (IsCalm (states_of D.state self.old.bay) (states_of D.state self.new.bay)) }
         ensures accounted { OnOk result (TellsFaults D.state self.old self.new) }
-        ensures fixed { IsSameRun self.old self.new }
+        ensures fixed { IsSameRun D.state self.old self.new }
         ensures still { IfOk result (λ turn. Stays turn self.old self.new) }
         ensures moved { IfOk result (λ turn. turn ≡ Turn.Moved) }
     {
@@ -153,7 +153,7 @@ impl<D: Device> Site<D> {
                 cause: StopCause::Runs,
             },
         )?;
-        self.core.stage = Stage::Stopped;
+        self.core.stage = Stage::Over;
         Ok(Turn::Moved)
     }
 
@@ -168,7 +168,7 @@ impl<D: Device> Site<D> {
         ensures refused { OnErr result (self.new.history.events ≡ self.old.history.events) }
         ensures calm { OnErr result (IsCalm (states_of D.state self.old.bay) (states_of D.state self.new.bay)) }
         ensures accounted { OnOk result (TellsFaults D.state self.old self.new) }
-        ensures fixed { IsSameRun self.old self.new }
+        ensures fixed { IsSameRun D.state self.old self.new }
         ensures still { IfOk result (λ turn. Stays turn self.old self.new) }
         ensures moved { IfOk result (λ turn. turn ≡ Turn.Moved) }
     {
@@ -200,7 +200,7 @@ impl<D: Device> Site<D> {
         ensures refused { OnErr result (self.new.history.events ≡ self.old.history.events) }
         ensures calm { OnErr result (IsCalm (states_of D.state self.old.bay) (states_of D.state self.new.bay)) }
         ensures accounted { OnOk result (TellsFaults D.state self.old self.new) }
-        ensures fixed { IsSameRun self.old self.new }
+        ensures fixed { IsSameRun D.state self.old self.new }
         ensures still { IfOk result (λ turn. Stays turn self.old self.new) }
         ensures moved { IfOk result (λ turn. turn ≡ Turn.Moved) }
     {
@@ -222,7 +222,7 @@ impl<D: Device> Site<D> {
         ensures events { OnOk result (self.new.history.events ≡ self.old.history.events ++ event.Found (map row_of (map found_member (filter is_standing members.items))) [] ∷ []) }
         ensures moved { IfOk result (λ turn. turn ≡ Turn.Moved) }
         ensures refused { OnErr result (self.new.history.events ≡ self.old.history.events) }
-        ensures fixed { IsSameRun self.old self.new }
+        ensures fixed { IsSameRun D.state self.old self.new }
         ensures bay { self.new.bay ≡ self.old.bay }
     {
         let kept = Cache::found(self.alloc, members)?;
@@ -247,7 +247,7 @@ impl<D: Device> Site<D> {
         ensures refused { OnErr result (self.new.history.events ≡ self.old.history.events) }
         ensures calm { OnErr result (IsCalm (states_of D.state self.old.bay) (states_of D.state self.new.bay)) }
         ensures accounted { OnOk result (TellsFaults D.state self.old self.new) }
-        ensures fixed { IsSameRun self.old self.new }
+        ensures fixed { IsSameRun D.state self.old self.new }
         ensures still { IfOk result (λ turn. Stays turn self.old self.new) }
         ensures moved { IfOk result (λ turn. turn ≡ Turn.Moved) }
     {

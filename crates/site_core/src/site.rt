@@ -3,9 +3,10 @@ ghost use Rattle.std.specs.Prelude.{◌≡◌, ◌≤◌, ◌<◌, ◌-◌, ◌^
 ghost use Rattle.node_device.specs.Rack.{states_of};
 ghost use Rattle.node_device.specs.Calls.{Crashes};
 ghost use Rattle.ckpt_model.specs.Machine.{Machine, Setup};
-ghost use Rattle.site_core.specs.Calls.{TellsAll};
-ghost use Rattle.site_core.specs.Follows.{Stands, Counts};
-ghost use Rattle.site_core.specs.Holds.{HasRest};
+ghost use Rattle.ckpt_model.specs.declared.event.StopCause.{StopCause};
+ghost use Rattle.site_stands.specs.Site.{IsSafeToStop, StandsAfterStop};
+ghost use Rattle.site_core.specs.Calls.{Tells};
+ghost use Rattle.site_core.specs.Follows.{Counts};
 
 use crate::cache::Cache;
 use crate::core_state::{Core, Stage};
@@ -43,11 +44,12 @@ pub struct Closed<D> {
     pub bay: Bay<D>,
 }
 
-/// Stops every device after a run: what they hold then stands for the state that the run came to.
+/// Stops every device after a run, with the outcome of this pick on each. Where a stop by some cause is safe in a state, what the devices hold then
+/// stands for a state after that stop.
 pub fn stop_devices<D: Device>(bay: &mut Bay<D>, pick: u8)
     requires { pick ≤ 3 }
     ensures crashes { (place : ℕ) → Crashes (states_of D.state bay.old place) (states_of D.state bay.new place) }
-    ensures stands { TellsAll D.state → (s : Setup) (m : Machine) → HasRest s (states_of D.state bay.old) m → Stands s (states_of D.state bay.new) m }
+    ensures stands { Tells (states_of D.state bay.new) → (s : Setup) (why : StopCause) (m : Machine) → IsSafeToStop s (states_of D.state bay.old) why m → StandsAfterStop s (states_of D.state bay.new) why m }
 {
     bay.stop(pick);
 }
@@ -75,10 +77,15 @@ impl<D: Device> Site<D> {
     ghost use Rattle.site_core.specs.Ahead.{Lowers};
     ghost use Rattle.site_core.specs.Order.{IsInOrder, KeepsOrder};
     ghost use Rattle.site_core.specs.Causes.{IsCalm};
-    ghost use Rattle.site_core.specs.Follows.{Keeps, Follows, Stands, Ends, WasCut, HasStopped, TellsBy, TellsEachFull, AccountsBy, IsActor, IsSameRun, IsHalted, KeepsCarried, Stays, Counts};
+    ghost use Rattle.scr_base.specs.Sets.{fits_sets};
+    ghost use Rattle.site_stands.specs.Site.{Stands};
+    ghost use Rattle.site_core.specs.Calls.{Tells};
+    ghost use Rattle.site_core.specs.Holds.{CanBegin, Closes};
+    ghost use Rattle.site_core.specs.Faults.{IsAccounted};
+    ghost use Rattle.site_core.specs.Follows.{Keeps, KeepsRun, IsRunFrom, HasStopped, TellsBy, TellsEachFull, AccountsBy, IsActor, IsSameRun, IsHalted, KeepsCarried, Stays, Counts};
 
     /// Begins a run over a bay, which it leaves as it is. The bay comes back where there is no memory. The places are those of
-    /// the nodes in their order, and each rank has a program.
+    /// the nodes in their order, each rank has a program, and the scheme fits the site's sets.
     pub fn begin(
         alloc: Global,
         bay: Bay<D>,
@@ -89,6 +96,7 @@ impl<D: Device> Site<D> {
     ) -> Result<Site<D>, Unbegun<D>>
         requires places { places.items ≡ numbers_below shape.nodes }
         requires programs { length programs.items ≡ shape.nodes * shape.ranks }
+        requires fits { fits_sets config.scheme config.size shape.nodes ≡ true }
         ensures bay { IfOk result (λ site. site.bay ≡ bay) }
         ensures refused { IfErr result (λ left. left.bay ≡ bay) }
         ensures empty { IfOk result (λ site. site.history.events ≡ []) }
@@ -99,7 +107,8 @@ impl<D: Device> Site<D> {
         ensures programs { IfOk result (λ site. site.programs ≡ map (λ program. program.items) programs.items) }
         ensures ranks { IfOk result (λ site. length site.core.ranks ≡ shape.nodes * shape.ranks) }
         ensures order { IfOk result (λ site. IsInOrder site.programs site.core.ranks) }
-        ensures follows { IfOk result (λ site. (first : Machine) → Stands (record { shape = shape; config = config }) (states_of D.state bay) first → Follows D.state first site) }
+        ensures accounts { IfOk result (λ site. IsAccounted D.state (states_of D.state bay) site) }
+        ensures follows { IfOk result (λ site. (first : Machine) → Tells (states_of D.state bay) → Stands (record { shape = shape; config = config }) (states_of D.state bay) first → CanBegin (record { shape = shape; config = config }) (states_of D.state bay) first → IsRunFrom D.state first site) }
     {
         let mut history = History::new(alloc);
         if history.reserve(1).is_err() {
@@ -121,7 +130,7 @@ impl<D: Device> Site<D> {
     /// Lets an actor take its turn: at most one change to one device, and at most one event.
     pub fn turn(&mut self, actor: Actor) -> Result<Turn, SiteError>
         requires { IsActor (length self.old.core.ranks) actor }
-        ensures run { OnOk result (Keeps D.state self.old self.new) }
+        ensures run { OnOk result (KeepsRun D.state self.old self.new) }
         ensures lowers { IfOk result (λ turn. Lowers turn self.old self.new) }
         ensures order { OnOk result (KeepsOrder self.old self.new) }
         ensures told { OnOk result (TellsBy actor D.state self.old self.new) }
@@ -130,7 +139,7 @@ impl<D: Device> Site<D> {
         ensures calm { OnErr result (IsCalm (states_of D.state self.old.bay) (states_of D.state self.new.bay)) }
         ensures accounted { OnOk result (AccountsBy actor D.state self.old self.new) }
         ensures kept { OnOk result (KeepsCarried self.old self.new) }
-        ensures fixed { IsSameRun self.old self.new }
+        ensures fixed { IsSameRun D.state self.old self.new }
         ensures still { IfOk result (λ turn. Stays turn self.old self.new) }
         ensures waits { IfOk result (λ turn. turn ≡ turn_of self.old.core self.old.programs actor) }
         ensures counts { IfOk result (λ turn. Counts turn self.old.moves self.new.moves) }
@@ -157,7 +166,7 @@ impl<D: Device> Site<D> {
         ensures calm { OnErr result (IsCalm (states_of D.state self.old.bay) (states_of D.state self.new.bay)) }
         ensures accounted { OnOk result (AccountsBy actor D.state self.old self.new) }
         ensures kept { OnOk result (KeepsCarried self.old self.new) }
-        ensures fixed { IsSameRun self.old self.new }
+        ensures fixed { IsSameRun D.state self.old self.new }
         ensures still { IfOk result (λ turn. Stays turn self.old self.new) }
         ensures waits { IfOk result (λ turn. turn ≡ turn_of self.old.core self.old.programs actor) }
     {
@@ -183,7 +192,7 @@ impl<D: Device> Site<D> {
             | Stage::Saving { .. }
             | Stage::Dropping { .. }
             | Stage::Dropped => Turn::NotYet { why: Why::Idle },
-            Stage::Stopped | Stage::Cut => Turn::Ended,
+            Stage::Over => Turn::Ended,
         }
     }
 
@@ -203,7 +212,7 @@ impl<D: Device> Site<D> {
         requires within { IsWithinLimit step }
         ensures asked { OnOk result (self.new ≡ record self.old { programs = lengthened self.old.programs rank step }) }
         ensures refused { OnErr result (self.new ≡ self.old) }
-        ensures run { Keeps D.state self.old self.new }
+        ensures run { KeepsRun D.state self.old self.new }
         ensures order { KeepsOrder self.old self.new }
     {
         self.programs.ask(rank, step)?;
@@ -215,7 +224,7 @@ impl<D: Device> Site<D> {
         ensures over { HasStopped self.old → self.new ≡ self.old }
         ensures halted { 1 ≤ self.old.history.spare → (HasStopped self.old → ⊥) → IsHalted self.old self.new }
         ensures sound { IsHalted self.old self.new ⊎ (self.new ≡ self.old) }
-        ensures run { Keeps D.state self.old self.new }
+        ensures run { KeepsRun D.state self.old self.new }
         ensures order { KeepsOrder self.old self.new }
     {
         if self.stopped() {
@@ -227,7 +236,7 @@ impl<D: Device> Site<D> {
         let Ok(()) = self.history.push(event) else {
             return;
         };
-        self.core.stage = Stage::Cut;
+        self.core.stage = Stage::Over;
     }
 
     /// How many turns moved.
@@ -248,15 +257,14 @@ impl<D: Device> Site<D> {
     pub fn stopped(&self) -> bool
         ensures { result ≡ true ↔ HasStopped self.now }
     {
-        matches!(self.core.stage, Stage::Stopped | Stage::Cut)
+        matches!(self.core.stage, Stage::Over)
     }
 
     /// Hands the history and the bay back.
     pub fn close(self) -> Closed<D>
         ensures history { result.history ≡ self.history }
         ensures bay { result.bay ≡ self.bay }
-        ensures cut { (first : Machine) → Follows D.state first self → self.core.stage ≡ Stage.Cut → WasCut (setup_of self.core) (states_of D.state result.bay) first self.core.places self.programs result.history.events }
-        ensures ends { (first : Machine) → Follows D.state first self → self.core.stage ≡ Stage.Stopped → Ends (setup_of self.core) (states_of D.state result.bay) first self.core.places self.programs result.history.events }
+        ensures closed { (first : Machine) → IsRunFrom D.state first self → HasStopped self → Closes (setup_of self.core) (states_of D.state result.bay) first self.core.places self.programs result.history.events }
     {
         let Site {
             alloc: _,

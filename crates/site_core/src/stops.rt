@@ -20,14 +20,14 @@ impl<D: Device> Site<D> {
     pub(crate) fn stop_by(&mut self, trouble: Trouble) -> Result<Turn, SiteError>
         requires { 2 ≤ self.old.history.spare }
         ensures events { OnOk result (self.new.history.events ≡ self.old.history.events ++ event.Stop (cause_of trouble) ∷ []) }
-        ensures core { OnOk result (self.new.core ≡ record self.old.core { stage = Stage.Cut }) }
+        ensures core { OnOk result (self.new.core ≡ record self.old.core { stage = Stage.Over }) }
         ensures lowers { is_over self.old.core.stage ≡ false → IfOk result (λ turn. Lowers turn self.old self.new) }
         ensures order { OnOk result (KeepsOrder self.old self.new) }
         ensures moved { IfOk result (λ turn. turn ≡ Turn.Moved) }
         ensures told { OnOk result (is_told trouble ≡ true) }
         ensures memory { OnErr result (trouble ≡ Trouble.Memory) }
         ensures refused { OnErr result (self.new ≡ self.old) }
-        ensures fixed { IsSameRun self.old self.new }
+        ensures fixed { IsSameRun D.state self.old self.new }
         ensures bay { self.new.bay ≡ self.old.bay }
     {
         let cause = match trouble {
@@ -46,7 +46,7 @@ impl<D: Device> Site<D> {
         let Ok(()) = self.history.push(Event::Stop { cause }) else {
             unreachable!()
         };
-        self.core.stage = Stage::Cut;
+        self.core.stage = Stage::Over;
         Ok(Turn::Moved)
     }
 
@@ -55,14 +55,14 @@ impl<D: Device> Site<D> {
     pub(crate) fn stop_by_fault(&mut self, trouble: Trouble) -> Result<Turn, SiteError>
         requires { 2 ≤ self.old.history.spare }
         ensures events { OnOk result (self.new.history.events ≡ self.old.history.events ++ event.Stop (cause_of trouble) ∷ []) }
-        ensures core { OnOk result (self.new.core ≡ record self.old.core { stage = Stage.Cut }) }
+        ensures core { OnOk result (self.new.core ≡ record self.old.core { stage = Stage.Over }) }
         ensures lowers { is_over self.old.core.stage ≡ false → IfOk result (λ turn. Lowers turn self.old self.new) }
         ensures order { OnOk result (KeepsOrder self.old self.new) }
         ensures moved { IfOk result (λ turn. turn ≡ Turn.Moved) }
         ensures fault { OnOk result (is_device_fault trouble ≡ true) }
         ensures no_fault { OnErr result (is_device_fault trouble ≡ false) }
         ensures refused { OnErr result (self.new ≡ self.old) }
-        ensures fixed { IsSameRun self.old self.new }
+        ensures fixed { IsSameRun D.state self.old self.new }
         ensures bay { self.new.bay ≡ self.old.bay }
     {
         match trouble {

@@ -6,7 +6,7 @@ use Rattle.scr_replay.proofs.playing.go_round.Goals as goal
 pub returns-clause-kept : goal.returns-clause-kept
 returns-clause-kept g c =
     on_ok_weaker c.take_plain_turn-4.result
-    (λ last tells first follows. last tells first (c.in_ok-take_plain_turn-3.ensures.kept tells first (c.in_ok-take_plain_turn-2.ensures.kept tells first (c.in_ok-take_rank_turns.ensures.kept tells first (c.in_ok-take_plain_turn.ensures.kept tells first follows)))))
+    (λ last first follows. last first (c.in_ok-take_plain_turn-3.ensures.kept first (c.in_ok-take_plain_turn-2.ensures.kept first (c.in_ok-take_rank_turns.ensures.kept first (c.in_ok-take_plain_turn.ensures.kept first follows)))))
     c.take_plain_turn-4.ensures.kept
 
 pub returns-clause-timed : goal.returns-clause-timed
@@ -26,3 +26,9 @@ returns-clause-goes g c =
     (goes_on c.take_rank_turns.new.site c.take_plain_turn-2.new.site c.take_plain_turn-4.new.site c.in_ok-take_plain_turn-2.ensures.goes
     (goes_on c.take_plain_turn-2.new.site c.take_plain_turn-3.new.site c.take_plain_turn-4.new.site c.in_ok-take_plain_turn-3.ensures.goes last)))
     c.take_plain_turn-4.ensures.goes
+
+pub returns-clause-accounts : goal.returns-clause-accounts
+returns-clause-accounts g c =
+    on_ok_weaker c.take_plain_turn-4.result
+    (λ last base before. last base (c.in_ok-take_plain_turn-3.ensures.accounts base (c.in_ok-take_plain_turn-2.ensures.accounts base (c.in_ok-take_rank_turns.ensures.accounts base (c.in_ok-take_plain_turn.ensures.accounts base before)))))
+    c.take_plain_turn-4.ensures.accounts

@@ -8,6 +8,6 @@ use Rattle.scr_replay.proofs.playing.play_all.Given as goal
 abbrev pub invariant-loop-item : goal.invariant-loop-item
 invariant-loop-item g l =
     record {
-      replayed : IsReplayed g.D.Device.state (setup_of l.script) (legal_items (take l.item-index l.script.items)) (states_of g.D.Device.state l.fn.bay) (states_of g.D.Device.state l.bay) (g.K.Sink.held l.fn.sink) (g.K.Sink.held l.sink) (g.C.Clock.reading l.fn.clock) (g.C.Clock.reading l.clock);
+      replayed : IsReplayed (setup_of l.script) (legal_items (take l.item-index l.script.items)) (states_of g.D.Device.state l.fn.bay) (states_of g.D.Device.state l.bay) (g.K.Sink.held l.fn.sink) (g.K.Sink.held l.sink) (g.C.Clock.reading l.fn.clock) (g.C.Clock.reading l.clock);
       quiet : g.K.Sink.fault_count l.sink ≡ g.K.Sink.fault_count l.fn.sink;
     }

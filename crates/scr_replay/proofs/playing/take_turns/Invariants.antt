@@ -1,12 +1,14 @@
-use Rattle.site_core.specs.Follows.{Keeps, IsSameRun}
+use Rattle.site_core.specs.Follows.{KeepsRun, IsSameRun}
 use Rattle.site_core.specs.Readings.{TellsTimes}
+use Rattle.site_core.specs.Faults.{KeepsAccount}
 use Rattle.scr_replay.proofs.playing.take_turns.Given as goal
 
 -- the turns so far kept the run, and told what was read of the clock
 abbrev pub invariant-loop-turn : goal.invariant-loop-turn
 invariant-loop-turn g l =
     record {
-      kept : Keeps g.D.Device.state l.fn.site l.site;
-      same : IsSameRun l.fn.site l.site;
+      kept : KeepsRun g.D.Device.state l.fn.site l.site;
+      same : IsSameRun g.D.Device.state l.fn.site l.site;
       timed : TellsTimes (g.C.Clock.reading l.fn.clock) (g.C.Clock.reading l.clock) l.fn.site.history.events l.site.history.events;
+      accounts : KeepsAccount g.D.Device.state l.fn.site l.site;
     }

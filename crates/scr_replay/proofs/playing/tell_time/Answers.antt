@@ -1,6 +1,7 @@
 use Rattle.std.proofs.Common.{inr}
 use Rattle.std.proofs.lemmas.Result.{on_ok_weaker}
 use Rattle.site_core.proofs.Readings.{told_times}
+use Rattle.site_core.proofs.Faults.{time_accounts}
 use Rattle.scr_replay.proofs.playing.tell_time.Goals as goal
 
 pub returns-clause-timed : goal.returns-clause-timed
@@ -11,3 +12,6 @@ returns-clause-timed g c =
 
 pub returns-clause-goes : goal.returns-clause-goes
 returns-clause-goes g c = on_ok_weaker c.tell_time.result (λ lt. inr lt) c.tell_time.ensures.lowers
+
+pub returns-clause-accounts : goal.returns-clause-accounts
+returns-clause-accounts g c = on_ok_weaker c.tell_time.result (λ told. time_accounts g.D.Device.state c.now-now.result c.args.site.now c.tell_time.new.self told) c.tell_time.ensures.told

@@ -17,7 +17,7 @@ returns-in-Ok-clause-done g c zero =
       quiet_source = run.quiet_source;
       quiet_sink = c.play_all.ensures.quiet zero ∙ run.quiet_sink;
       replayed =
-          subst (λ (held : Option (List ℕ)). IsReplayed state (setup_of script) (legal_items script.items) (states_of state c.args.bay) (states_of state c.play_all.result.bay) held (g.K.Sink.held c.play_all.new.sink) (g.C.Clock.reading c.args.clock.now) (g.C.Clock.reading c.play_all.new.clock)) run.unprinted
+          subst (λ (held : Option (List ℕ)). IsReplayed (setup_of script) (legal_items script.items) (states_of state c.args.bay) (states_of state c.play_all.result.bay) held (g.K.Sink.held c.play_all.new.sink) (g.C.Clock.reading c.args.clock.now) (g.C.Clock.reading c.play_all.new.clock)) run.unprinted
           (c.play_all.ensures.done zero);
     }
 
@@ -31,6 +31,6 @@ returns-in-Ok-clause-front g c high =
       read = run.read;
       built = run.built;
       cut =
-          subst (λ (held : Option (List ℕ)). CutsShort state (setup_of script) script.items (states_of state c.args.bay) held (g.K.Sink.held c.play_all.new.sink)) run.unprinted
+          subst (λ (held : Option (List ℕ)). CutsShort (setup_of script) script.items (states_of state c.args.bay) held (g.K.Sink.held c.play_all.new.sink)) run.unprinted
           (c.play_all.ensures.cut high);
     })

@@ -5,6 +5,8 @@ use Rattle.site_core.specs.Writes.{IsNoWrite}
 use Rattle.site_core.specs.declared.error.Trouble.{Trouble}
 use Rattle.site_core.proofs.CallCauses.{refused}
 use Rattle.site_core.proofs.RefusedCalls.{file_dropped, drop_refused, read_refused, leaving-same}
+use Rattle.site_core.proofs.Telling.{alike_only}
+use Rattle.site_core.proofs.RefusedCalls.{unchanged_tells, dropped_tells}
 use Rattle.site_core.proofs.file_calls.drop_file.Goals as goal
 
 pub returns-in-Ok-clause-dropped : goal.returns-in-Ok-clause-dropped
@@ -36,3 +38,16 @@ returns-in-Err-clause-refused g c =
       here = read_refused (old c.args.place) (new c.args.place) c.in-Err.ensures.drops.here.refused.1;
       others = c.in-Err.ensures.drops.others;
     }
+
+pub returns-in-Ok-clause-tells : goal.returns-in-Ok-clause-tells
+returns-in-Ok-clause-tells g c =
+    let old = states_of g.D.Device.state c.args.bay.now in
+    let new = states_of g.D.Device.state c.drop_file_at.new.bay in
+    let r = c.args.removal.now in
+    alike_only c.args.place old new c.in-Ok.ensures.drops.others (dropped_tells r.which r.node (old c.args.place) (new c.args.place) c.in-Ok.ensures.drops.here.at_most)
+
+pub returns-in-Err-clause-tells : goal.returns-in-Err-clause-tells
+returns-in-Err-clause-tells g c =
+    let old = states_of g.D.Device.state c.args.bay.now in
+    let new = states_of g.D.Device.state c.drop_file_at.new.bay in
+    alike_only c.args.place old new c.in-Err.ensures.drops.others (unchanged_tells (old c.args.place) (new c.args.place) c.in-Err.ensures.drops.here.refused.1)

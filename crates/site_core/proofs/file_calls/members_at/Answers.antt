@@ -1,5 +1,7 @@
 use Rattle.node_device.specs.Rack.{states_of}
 use Rattle.site_core.proofs.RefusedCalls.{read_refused}
+use Rattle.site_core.proofs.Telling.{alike_only}
+use Rattle.site_core.proofs.RefusedCalls.{unchanged_tells}
 use Rattle.site_core.proofs.file_calls.members_at.Goals as goal
 
 pub returns-in-Err-clause-refused : goal.returns-in-Err-clause-refused
@@ -10,3 +12,15 @@ returns-in-Err-clause-refused g c =
       here = read_refused (old c.args.place) (new c.args.place) c.in-Err.ensures.here.same;
       others = c.in-Err.ensures.others;
     }
+
+pub returns-in-Ok-clause-tells : goal.returns-in-Ok-clause-tells
+returns-in-Ok-clause-tells g c =
+    let old = states_of g.D.Device.state c.args.bay.now in
+    let new = states_of g.D.Device.state c.scan_at.new.bay in
+    alike_only c.args.place old new c.scan_at.ensures.others (unchanged_tells (old c.args.place) (new c.args.place) c.scan_at.ensures.here.same)
+
+pub returns-in-Err-clause-tells : goal.returns-in-Err-clause-tells
+returns-in-Err-clause-tells g c =
+    let old = states_of g.D.Device.state c.args.bay.now in
+    let new = states_of g.D.Device.state c.scan_at.new.bay in
+    alike_only c.args.place old new c.scan_at.ensures.others (unchanged_tells (old c.args.place) (new c.args.place) c.scan_at.ensures.here.same)

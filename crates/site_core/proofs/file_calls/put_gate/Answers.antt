@@ -8,6 +8,7 @@ use Rattle.site_core.specs.Writes.{IsWrite}
 use Rattle.site_core.specs.declared.error.Trouble.{Trouble}
 use Rattle.site_core.proofs.CallCauses.{refused, gate_refused, turned}
 use Rattle.site_core.proofs.RefusedCalls.{gate_unturned}
+use Rattle.site_core.proofs.Telling.{alike_only}
 use Rattle.site_core.proofs.file_calls.put_gate.Goals as goal
 
 pub returns-in-Ok-clause-turned : goal.returns-in-Ok-clause-turned
@@ -34,3 +35,15 @@ returns-in-Err-clause-refused g c =
       here = gate_unturned {T = Unit {0}} (record_name c.args.which c.args.node) (gate_number c.args.gate) (gate_byte true) c.in-Err.error (old c.args.place) (new c.args.place) c.in-Err.ensures.here;
       others = c.in-Err.ensures.others;
     }
+
+pub returns-in-Ok-clause-tells : goal.returns-in-Ok-clause-tells
+returns-in-Ok-clause-tells g c =
+    let old = states_of g.D.Device.state c.args.bay.now in
+    let new = states_of g.D.Device.state c.open_gate_at.new.bay in
+    alike_only c.args.place old new c.open_gate_at.ensures.others c.open_gate_at.ensures.here.only.tells
+
+pub returns-in-Err-clause-tells : goal.returns-in-Err-clause-tells
+returns-in-Err-clause-tells g c =
+    let old = states_of g.D.Device.state c.args.bay.now in
+    let new = states_of g.D.Device.state c.open_gate_at.new.bay in
+    alike_only c.args.place old new c.open_gate_at.ensures.others c.open_gate_at.ensures.here.only.tells

@@ -7,6 +7,7 @@ use Rattle.site_core.proofs.CallCauses.{refused, record_refused, recorded, calm_
 use Rattle.member_store.specs.Names.{record_name}
 use Rattle.member_store.specs.Members.{member_body}
 use Rattle.site_core.proofs.RefusedCalls.{record_unwritten}
+use Rattle.site_core.proofs.Telling.{alike_only}
 use Rattle.site_core.proofs.file_calls.put_member.Goals as goal
 
 pub returns-in-Ok-clause-recorded : goal.returns-in-Ok-clause-recorded
@@ -36,3 +37,15 @@ returns-in-Err-clause-refused g c =
       here = record_unwritten {T = Unit {0}} (record_name c.args.desc.now.which c.args.node) (member_body c.args.desc.now c.args.node c.args.files.now) c.in-Err.error (old c.args.place) (new c.args.place) c.in-Err.ensures.here;
       others = c.in-Err.ensures.others;
     }
+
+pub returns-in-Ok-clause-tells : goal.returns-in-Ok-clause-tells
+returns-in-Ok-clause-tells g c =
+    let old = states_of g.D.Device.state c.args.bay.now in
+    let new = states_of g.D.Device.state c.write_member_at.new.bay in
+    alike_only c.args.place old new c.write_member_at.ensures.others c.write_member_at.ensures.here.only.tells
+
+pub returns-in-Err-clause-tells : goal.returns-in-Err-clause-tells
+returns-in-Err-clause-tells g c =
+    let old = states_of g.D.Device.state c.args.bay.now in
+    let new = states_of g.D.Device.state c.write_member_at.new.bay in
+    alike_only c.args.place old new c.write_member_at.ensures.others c.write_member_at.ensures.here.only.tells

@@ -6,6 +6,7 @@ use Rattle.site_core.specs.declared.error.Trouble.{Trouble}
 use Rattle.site_core.proofs.CallCauses.{refused, part_refused}
 use Rattle.member_store.specs.Names.{part_name}
 use Rattle.site_core.proofs.RefusedCalls.{write_refused}
+use Rattle.site_core.proofs.Telling.{alike_only}
 use Rattle.site_core.proofs.file_calls.put_part.Goals as goal
 
 pub returns-in-Err-clause-cause : goal.returns-in-Err-clause-cause
@@ -23,3 +24,15 @@ returns-in-Err-clause-refused g c =
       here = write_refused (part_name c.args.which c.args.node c.args.part) (old c.args.place) (new c.args.place) c.in-Err.ensures.here.refused c.in-Err.ensures.here.only;
       others = c.in-Err.ensures.others;
     }
+
+pub returns-in-Ok-clause-tells : goal.returns-in-Ok-clause-tells
+returns-in-Ok-clause-tells g c =
+    let old = states_of g.D.Device.state c.args.bay.now in
+    let new = states_of g.D.Device.state c.write_part_at.new.bay in
+    alike_only c.args.place old new c.write_part_at.ensures.others c.write_part_at.ensures.here.only.tells
+
+pub returns-in-Err-clause-tells : goal.returns-in-Err-clause-tells
+returns-in-Err-clause-tells g c =
+    let old = states_of g.D.Device.state c.args.bay.now in
+    let new = states_of g.D.Device.state c.write_part_at.new.bay in
+    alike_only c.args.place old new c.write_part_at.ensures.others c.write_part_at.ensures.here.only.tells

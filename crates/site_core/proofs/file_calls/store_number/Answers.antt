@@ -5,6 +5,7 @@ use Rattle.gated_record.specs.PairSteps.{StepsPair}
 use Rattle.site_core.specs.Writes.{PassesOn}
 use Rattle.site_core.proofs.CallCauses.{alike_use, calm_at}
 use Rattle.site_core.proofs.Fits.{way_fits, way_full}
+use Rattle.site_core.proofs.Telling.{alike_only}
 use Rattle.site_core.proofs.file_calls.store_number.Goals as goal
 
 pub returns-in-Ok-clause-fits : goal.returns-in-Ok-clause-fits
@@ -39,3 +40,21 @@ returns-in-Err-clause-refused g c = record {
   here = record { leaves = λ value stage. (c.in-Err.ensures.steps.here.goes value stage).leaves; only = c.in-Err.ensures.steps.here.only };
   others = c.in-Err.ensures.steps.others;
 }
+
+pub returns-in-Ok-clause-tells : goal.returns-in-Ok-clause-tells
+returns-in-Ok-clause-tells g c =
+    let old = states_of g.D.Device.state c.args.bay.now in
+    let new = states_of g.D.Device.state c.step_number.new.bay in
+    alike_only 32 old new c.step_number.ensures.steps.others c.step_number.ensures.steps.here.only.tells
+
+pub returns-in-Err-clause-tells : goal.returns-in-Err-clause-tells
+returns-in-Err-clause-tells g c =
+    let old = states_of g.D.Device.state c.args.bay.now in
+    let new = states_of g.D.Device.state c.step_number.new.bay in
+    alike_only 32 old new c.step_number.ensures.steps.others c.step_number.ensures.steps.here.only.tells
+
+pub returns-in-Err-Full-clause-tells : goal.returns-in-Err-Full-clause-tells
+returns-in-Err-Full-clause-tells g c =
+    let old = states_of g.D.Device.state c.args.bay.now in
+    let new = states_of g.D.Device.state c.step_number.new.bay in
+    alike_only 32 old new c.step_number.ensures.steps.others c.step_number.ensures.steps.here.only.tells

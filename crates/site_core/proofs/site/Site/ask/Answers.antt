@@ -8,10 +8,14 @@ use Rattle.site_core.specs.Order.{IsInOrder}
 use Rattle.site_core.proofs.site.Site.ask.Goals as goal
 
 pub returns-clause-run : goal.returns-clause-run
-returns-clause-run g c = λ tells first f.
+returns-clause-run g c = λ first f.
     let s = c.args.self.now in
     let states = states_of g.D.Device.state s.bay in
-    subst (λ (p : List (List Step)). Leads first s.core p states s.history.events) (sym c.in_ok-ask.ensures.asked) (still_leads first s.core s.programs c.args.rank c.args.step states s.history.events f)
+    record {
+      tells = f.tells;
+      fair = f.fair;
+      leads = subst (λ (p : List (List Step)). Leads first s.core p states s.history.events) (sym c.in_ok-ask.ensures.asked) (still_leads first s.core s.programs c.args.rank c.args.step states s.history.events f.leads);
+    }
 
 pub returns-clause-order : goal.returns-clause-order
 returns-clause-order g c = λ order.

@@ -11,7 +11,7 @@ use Rattle.round_core.specs.declared.seat.Seat.{Seat}
 use Rattle.site_core.proofs.site.Site.begin_dropping.Goals as goal
 
 pub returns-clause-run : goal.returns-clause-run
-returns-clause-run g c = λ tells first f.
+returns-clause-run g c = λ tells first base f.
     let s = c.args.self.now in
     let states = states_of g.D.Device.state s.bay in
     subst (λ (x : Core). Leads first x s.programs states s.history.events) (sym c.begin_dropping.ensures)

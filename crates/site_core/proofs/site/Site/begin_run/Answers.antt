@@ -1,10 +1,10 @@
-use Rattle.std.proofs.Common.{◌∙◌, ℕ, ap, sym, subst, refl, inl, OnErr}
+use Rattle.std.proofs.Common.{arith, ◌∙◌, ℕ, ap, sym, subst, refl, inl, OnErr}
 use Rattle.node_device.specs.DeviceState.{DeviceState}
 use Rattle.node_device.specs.Rack.{states_of}
 use Rattle.site_core.specs.Stored.{cells_of, stored_run}
 use Rattle.site_core.specs.Holds.{Leads}
 use Rattle.site_core.specs.Follows.{IsOfWorker}
-use Rattle.site_core.proofs.Telling.{tells_of, same_states, on_ok, on_ok2, on_ok3}
+use Rattle.site_core.proofs.Telling.{tell_on, same_states, on_ok, on_ok2, on_ok3}
 use Rattle.site_core.proofs.CallCauses.{no_write}
 use Rattle.site_core.proofs.Turns.{ends_early, tells_end, moved_stays, told_across}
 use Rattle.site_core.specs.Waiting.{is_over}
@@ -18,7 +18,7 @@ take_number-requires-clause-last g c = λ tells.
     let s = c.args.self.now in
     let state = g.D.Device.state in
     let same = same_states 32 (states_of state s.bay) (states_of state c.last_run.new.bay) c.in-Ok.ensures.same in
-    c.in-Ok.ensures.run (tells_of state tells s.bay 32) ∙ sym (ap (λ (st : ℕ → DeviceState). stored_run (cells_of st)) same)
+    c.in-Ok.ensures.run (sym (c.last_run.ensures.tells 32) ∙ tells 32 (omega arith)) ∙ sym (ap (λ (st : ℕ → DeviceState). stored_run (cells_of st)) same)
 
 pub returns-in-Ok-clause-run : goal.returns-in-Ok-clause-run
 returns-in-Ok-clause-run g c =
@@ -26,7 +26,7 @@ returns-in-Ok-clause-run g c =
     let state = g.D.Device.state in
     let same = same_states 32 (states_of state s.bay) (states_of state c.last_run.new.bay) c.in-Ok.ensures.same in
     on_ok c.take_number.result
-    (λ keeps tells first f. keeps tells first (with_room c.reserve.ensures.events (subst (λ (st : ℕ → DeviceState). Leads first s.core s.programs st s.history.events) (sym same) f)))
+    (λ keeps tells first base f. keeps (tell_on (states_of state s.bay) (states_of state c.last_run.new.bay) c.last_run.ensures.tells tells) first base (with_room c.reserve.ensures.events (subst (λ (st : ℕ → DeviceState). Leads first s.core s.programs st s.history.events) (sym same) f)))
     c.take_number.ensures.run
 
 pub returns-in-Ok-clause-told : goal.returns-in-Ok-clause-told

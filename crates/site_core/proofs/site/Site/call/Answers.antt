@@ -17,7 +17,7 @@ number_after-number-requires g c =
     subst (λ (x : Seat). x.number + 1 < 2 ^ 32) (sym same) next.small
 
 pub returns-clause-run : goal.returns-clause-run
-returns-clause-run g c = λ tells first f.
+returns-clause-run g c = λ tells first base f.
     let s = c.args.self.now in
     let next = c.requires.next in
     let same : c.in-Some.seat.now ≡ next.seat = some_same c.in-Some.seat.now next.seat (c.in-Some.ensures ∙ next.is) in

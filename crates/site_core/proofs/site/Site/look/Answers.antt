@@ -1,4 +1,4 @@
-use Rattle.std.proofs.Common.{◌∙◌, [], map, filter, ap, sym, refl}
+use Rattle.std.proofs.Common.{arith, ◌∙◌, [], map, filter, ap, sym, refl}
 use Rattle.ckpt_model.specs.declared.event.Event.TheVariants as event
 use Rattle.node_device.specs.Rack.{states_of}
 use Rattle.site_core.specs.Shown.{row_of}
@@ -7,7 +7,7 @@ use Rattle.site_core.specs.Looks.{is_standing, found_member}
 use Rattle.site_core.specs.Cores.{recovered, seen_core}
 use Rattle.site_core.specs.Follows.{IsOfWorker}
 use Rattle.site_core.proofs.Told.{appended}
-use Rattle.site_core.proofs.Telling.{tells_of, same_states, on_ok, on_ok2, on_ok3}
+use Rattle.site_core.proofs.Telling.{same_states, on_ok, on_ok2, on_ok3}
 use Rattle.site_core.proofs.LocalSteps.{lead_on}
 use Rattle.site_core.proofs.CallCauses.{no_write}
 use Rattle.site_core.proofs.Turns.{ends_looking, tells_end, tells_one, moved_stays}
@@ -16,7 +16,7 @@ use Rattle.site_core.specs.Waiting.{is_over}
 use Rattle.site_core.proofs.site.Site.look.Goals as goal
 
 pub returns-in-Ok-clause-run : goal.returns-in-Ok-clause-run
-returns-in-Ok-clause-run g c = on_ok2 c.find.result (λ k e tells first f.
+returns-in-Ok-clause-run g c = on_ok2 c.find.result (λ k e tells first base f.
     let s = c.args.self.now in
     let state = g.D.Device.state in
     let place = c.in-Some.place in
@@ -24,7 +24,7 @@ returns-in-Ok-clause-run g c = on_ok2 c.find.result (λ k e tells first f.
     let after = c.find.new.self in
     let same = same_states place (states_of state s.bay) (states_of state c.members_at.new.bay) c.in-Ok.ensures.same in
     let told = appended after.history.events c.reserve.new.self.events s.history.events (event.Found (map row_of kept) []) (event.Found (map row_of kept) []) e c.reserve.ensures.events refl in
-    let l = seen first s.core s.programs (states_of state s.bay) s.history.events after.history.events place c.in-Ok.members.items kept c.requires (sym c.of_node.ensures.place ∙ c.in-Some.is) (c.in-Ok.ensures.members (tells_of state tells s.bay place)) refl told f in
+    let l = seen first s.core s.programs (states_of state s.bay) s.history.events after.history.events place c.in-Ok.members.items kept c.requires (sym c.of_node.ensures.place ∙ c.in-Some.is) (c.in-Ok.ensures.members (tells place (omega (arith, c.in-Some.ensures.low)))) refl told f in
     lead_on first (recovered (seen_core s.core kept)) after.core s.programs after.programs (states_of state s.bay) (states_of state after.bay) after.history.events k c.find.ensures.fixed.programs (ap (states_of state) c.find.ensures.bay ∙ same) l)
     c.find.ensures.found c.find.ensures.events
 

@@ -16,13 +16,13 @@ use Rattle.site_core.proofs.InOrder.{recovered_ranks}
 use Rattle.site_core.proofs.site.Site.mend.Goals as goal
 
 pub returns-in_default-clause-run : goal.returns-in_default-clause-run
-returns-in_default-clause-run g c = λ tells first f.
+returns-in_default-clause-run g c = λ tells first base f.
     let s = c.args.self.now in
     let states = states_of g.D.Device.state s.bay in
     subst (λ (x : Core). Leads first x s.programs states s.history.events) (sym c.end_recovery.ensures) (recovers first s.core s.programs states s.history.events c.requires f)
 
 pub returns-clause-run : goal.returns-clause-run
-returns-clause-run g c = λ tells first f.
+returns-clause-run g c = λ tells first base f.
     let s = c.args.self.now in
     let states = states_of g.D.Device.state s.bay in
     let events = c.push.new.history.events in

@@ -13,7 +13,7 @@ use Rattle.round_core.specs.Seats.{stepped}
 use Rattle.site_core.specs.Choosing.{rows_at}
 use Rattle.site_core.specs.declared.core_state.Core.{Core}
 use Rattle.site_core.proofs.LocalCalls.{front_is}
-use Rattle.site_core.proofs.LocalSteps.{read_told, each_tells, same_states, lead_on}
+use Rattle.site_core.proofs.LocalSteps.{read_told, same_states, lead_on}
 use Rattle.scr_base.specs.declared.answers.Refusal.{Refusal}
 use Rattle.scr_base.specs.declared.answers.Refusal.TheVariants as refusal
 use Rattle.ckpt_model.specs.Answers.{may_fault_local}
@@ -31,7 +31,7 @@ use Rattle.site_core.proofs.Accounts.{well_then, refusal_told, carries_same}
 use Rattle.site_core.proofs.site.Site.read.Goals as goal
 
 pub returns-in-Ok-get_part-clause-run : goal.returns-in-Ok-get_part-clause-run
-returns-in-Ok-get_part-clause-run g c = λ tells first follows.
+returns-in-Ok-get_part-clause-run g c = λ tells first base follows.
     let s = c.args.self.now in
     let state = g.D.Device.state in
     let n = c.requires.next in
@@ -45,7 +45,7 @@ returns-in-Ok-get_part-clause-run g c = λ tells first follows.
     let number = c.number_of-file.ensures.number ∙ ap (λ (w : List ℕ). place_of (rows_at s.core rank) w) c.bytes.ensures.value in
     let row_is : slice_get (rows_at s.core rank) file ≡ Some row = ap (λ (rs : List FileRow). slice_get rs file) (sym c.rows_at.ensures.value) ∙ slice_get-get_or c.rows_at.result.now file row c.in-Some.ensures.lookup.3.0 ∙ ap (λ (r : FileRow). Some r) (sym c.in-Some.ensures.lookup.1) in
     let there = bytes_of ((states_of state s.bay spot.place).file (part_name spot.which spot.node spot.part)).now in
-    let told : c.get_part.new.into ≡ take (length c.deref_mut.result.now) (drop c.min-from.result there) = c.in-Ok-get_part.ensures.bytes (each_tells state s.bay tells spot.place) in
+    let told : c.get_part.new.into ≡ take (length c.deref_mut.result.now) (drop c.min-from.result there) = c.in-Ok-get_part.ensures.bytes (tells spot.place (omega (arith, c.in-Some-spot.ensures.low))) in
     let count : length c.deref_mut.result.now ≡ min len (row.len - at) = c.deref_mut.ensures.len ∙ c.in-Ok.ensures.len ∙ c.min-count.ensures ∙ ap (λ (k : ℕ). min len k) c.saturating_sub.ensures in
     let text : c.of-bytes.result ≡ take (min len (row.len - at)) (drop (min at row.len) there) =
     c.of-bytes.ensures ∙ front_is c.in-Ok.bytes.len c.get_part.new.into (drop (length c.get_part.new.into) c.in-Ok.bytes.items) (c.in-Ok.bytes.ok.0 ∙ ap length (sym c.deref_mut.ensures.value) ∙ sym c.get_part.auto.into) ∙ told ∙ ap (λ (k : ℕ). take k (drop c.min-from.result there)) count ∙ ap (λ (k : ℕ). take (min len (row.len - at)) (drop k there)) c.min-from.ensures in

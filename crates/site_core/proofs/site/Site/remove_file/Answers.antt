@@ -2,10 +2,10 @@ use Rattle.std.proofs.Common.{◌≡◌, sym, ap, ◌∙◌, refl}
 use Rattle.node_device.specs.Rack.{states_of}
 use Rattle.site_core.specs.Removals.{Leaving}
 use Rattle.site_core.specs.declared.core_state.Drop.TheVariants as drop
-use Rattle.site_core.proofs.Cuts.{cut_core}
+use Rattle.site_core.proofs.Closing.{over_core}
 use Rattle.site_core.proofs.Removing.{file_dropped, files_dropped}
 use Rattle.site_core.proofs.DroppedRounds.{ends_dropping}
-use Rattle.site_core.proofs.Telling.{on_ok3, tells_all}
+use Rattle.site_core.proofs.Telling.{on_ok3, tell_on}
 use Rattle.site_core.proofs.Sounds.{sound_of}
 use Rattle.site_core.proofs.AheadCores.{removed_lower, cleared_lower, ends_lower}
 use Rattle.site_core.specs.Waiting.{is_over}
@@ -13,15 +13,15 @@ use Rattle.site_core.proofs.Told.{behind, with_room}
 use Rattle.site_core.proofs.site.Site.remove_file.Goals as goal
 
 pub returns-in-Ok-true-clause-run : goal.returns-in-Ok-true-clause-run
-returns-in-Ok-true-clause-run g c = λ tells first f.
+returns-in-Ok-true-clause-run g c = λ tells first base f.
     let s = c.args.self.now in
     let state = g.D.Device.state in
     let bay = c.drop_file.new.bay in
     with_room c.reserve.ensures.events (files_dropped first s.core s.programs (states_of state s.bay) (states_of state bay) s.history.events c.args.node c.in-Some.place c.requires.stage (sym c.in-Some.ensures.place) f c.drop_file.new.removal c.drop_file.ensures.which c.drop_file.ensures.node c.in-Ok-true.field-0 c.in-Ok-true.ensures.dropped
-    (sound_of state g.met.D.Device.sound s.bay) c.in-Ok-true.field-0-test (tells_all state tells bay) (sound_of state g.met.D.Device.sound bay))
+    (sound_of state g.met.D.Device.sound s.bay) c.in-Ok-true.field-0-test (tell_on (states_of state s.bay) (states_of state bay) c.drop_file.ensures.tells tells) (sound_of state g.met.D.Device.sound bay))
 
 pub returns-in-Ok-false-clause-run : goal.returns-in-Ok-false-clause-run
-returns-in-Ok-false-clause-run g c = λ tells first f.
+returns-in-Ok-false-clause-run g c = λ tells first base f.
     let s = c.args.self.now in
     let state = g.D.Device.state in
     with_room c.reserve.ensures.events (file_dropped first s.core s.programs (states_of state s.bay) (states_of state c.drop_file.new.bay) s.history.events c.args.node c.in-Some.place c.requires.stage (sym c.in-Some.ensures.place) f c.drop_file.new.removal c.drop_file.ensures.which c.drop_file.ensures.node c.in-Ok-false.field-0 c.in-Ok-false.ensures.dropped (sound_of state g.met.D.Device.sound s.bay))
@@ -29,8 +29,8 @@ returns-in-Ok-false-clause-run g c = λ tells first f.
 pub returns-in-Err-clause-run : goal.returns-in-Err-clause-run
 returns-in-Err-clause-run g c = on_ok3 c.stop_by_fault.result (λ e k t. ends_dropping g.D.Device.state c.args.self.now c.stop_by_fault.new.self c.in-Err.trouble (behind _ e c.reserve.ensures.events) (k ∙ as_before) c.stop_by_fault.ensures.fixed.programs drop.File c.args.node c.requires.stage t c.in-Some.place c.drop_file.new.bay c.stop_by_fault.ensures.bay c.in-Err.ensures.refused)
     c.stop_by_fault.ensures.events c.stop_by_fault.ensures.core c.stop_by_fault.ensures.fault where
-      as_before : cut_core (record c.args.self.now.core { removal = c.drop_file.new.removal }) ≡ cut_core c.args.self.now.core
-      as_before = ap (λ (r : Leaving). cut_core (record c.args.self.now.core { removal = r })) c.in-Err.ensures.stays
+      as_before : over_core (record c.args.self.now.core { removal = c.drop_file.new.removal }) ≡ over_core c.args.self.now.core
+      as_before = ap (λ (r : Leaving). over_core (record c.args.self.now.core { removal = r })) c.in-Err.ensures.stays
 
 pub returns-in-Ok-true-clause-lowers : goal.returns-in-Ok-true-clause-lowers
 returns-in-Ok-true-clause-lowers g c =

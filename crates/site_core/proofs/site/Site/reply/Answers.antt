@@ -8,7 +8,7 @@ use Rattle.site_core.proofs.InOrder.{freed_order}
 use Rattle.site_core.proofs.site.Site.reply.Goals as goal
 
 pub returns-clause-run : goal.returns-clause-run
-returns-clause-run g c = λ tells first f.
+returns-clause-run g c = λ tells first base f.
     let s = c.args.self.now in
     let answer = c.in-Some-take_reply.answer in
     let seat = c.in-Some.seat.now in

@@ -12,7 +12,7 @@ use Rattle.site_core.specs.Cores.{with_rows, with_open}
 use Rattle.site_core.specs.declared.core_state.Core.{Core}
 use Rattle.site_core.proofs.Told.{appended, behind}
 use Rattle.site_core.proofs.LocalCalls.{clear_new}
-use Rattle.site_core.proofs.LocalSteps.{route_told, each_tells, hand_opened, lead_on}
+use Rattle.site_core.proofs.LocalSteps.{route_told, hand_opened, lead_on}
 use Rattle.site_core.proofs.Telling.{on_ok2}
 use Rattle.site_core.proofs.LocalRefusals.{keeps_put}
 use Rattle.site_core.proofs.AheadCores.{stepped_run}
@@ -27,7 +27,7 @@ use Rattle.site_core.proofs.Fulls.{passes_this, file_write, step_writes, step_fu
 use Rattle.site_core.proofs.site.Site.route_new.Goals as goal
 
 pub returns-in_ok-route-in-Ok-put_part-clause-run : goal.returns-in_ok-route-in-Ok-put_part-clause-run
-returns-in_ok-route-in-Ok-put_part-clause-run g c = λ tells first follows.
+returns-in_ok-route-in-Ok-put_part-clause-run g c = λ tells first base follows.
     let s = c.args.self.now in
     let state = g.D.Device.state in
     let n = c.requires.next in
@@ -47,7 +47,7 @@ returns-in_ok-route-in-Ok-put_part-clause-run g c = λ tells first follows.
     lead_on first (with_open s.core (with_rows m rank (routed old c.args.word)) (slice_set s.core.ranks rank (stepped n.seat))) after.core s.programs after.programs (states_of state c.put_part.new.bay) (states_of state after.bay) after.history.events
     core c.go_past.ensures.fixed.programs (ap (states_of state) c.go_past.ensures.bay)
     (route_told first s.core s.programs (states_of state s.bay) (states_of state c.put_part.new.bay) s.history.events after.history.events rank file c.args.word c.in_ok-part.part c.in-Some.spot
-    c.requires.stage n c.requires.clear c.requires.new c.in-Some.ensures number c.number_of-file.ensures.within c.number_of-file.ensures.rows c.in_ok-part.ensures c.in-Ok-put_part.ensures.written (λ p low. each_tells state s.bay tells p) more follows)
+    c.requires.stage n c.requires.clear c.requires.new c.in-Some.ensures number c.number_of-file.ensures.within c.number_of-file.ensures.rows c.in_ok-part.ensures c.in-Ok-put_part.ensures.written tells more follows)
 
 pub returns-in_ok-route-in-Ok-put_part-clause-told : goal.returns-in_ok-route-in-Ok-put_part-clause-told
 returns-in_ok-route-in-Ok-put_part-clause-told g c =

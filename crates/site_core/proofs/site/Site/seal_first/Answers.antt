@@ -13,7 +13,6 @@ use Rattle.site_core.proofs.Saving.{saving_leads, staged}
 use Rattle.site_core.proofs.SaveMoves.{sealed_turned}
 use Rattle.site_core.proofs.SaveEnds.{seal_told}
 use Rattle.site_core.proofs.Works.{saves_now, opened_is}
-use Rattle.site_core.proofs.Telling.{tells_all}
 use Rattle.site_core.proofs.Telling.{on_ok2, on_ok3}
 use Rattle.site_core.proofs.Refusals.{fault_is_told, fault_cause}
 use Rattle.site_core.proofs.Turns.{ends_saving, sealing_left, tells_end, moved_stays}
@@ -31,7 +30,7 @@ use Rattle.site_core.specs.Cores.{saved_in}
 use Rattle.site_core.proofs.site.Site.seal_first.Goals as goal
 
 pub returns-in_ok-push-in-Ok-clause-run : goal.returns-in_ok-push-in-Ok-clause-run
-returns-in_ok-push-in-Ok-clause-run g c = λ tells first f.
+returns-in_ok-push-in-Ok-clause-run g c = λ tells first base f.
     let s = c.args.self.now in
     let old = states_of g.D.Device.state s.bay in
     let new = states_of g.D.Device.state c.put_gate.new.bay in
@@ -42,11 +41,11 @@ returns-in_ok-push-in-Ok-clause-run g c = λ tells first f.
     let told = appended c.push.new.self.events c.reserve.new.self.events s.history.events (event.Sealing m.desc.which) (event.Sealing m.desc.which) c.in_ok-push-in-Ok.ensures.events c.reserve.ensures.events refl in
     let sealing = seal_told first s.core s.programs old s.history.events c.push.new.self.events work.Sealed c.args.node m saving refl c.in-Some-opened.is told in
     let l = saving_leads first (sealed_core s.core m) s.programs new c.push.new.self.events work.SealedSync c.args.node m
-    (sealed_turned first (sealed_core s.core m) s.programs old new c.push.new.self.events c.args.node m c.in-Some.place (sym c.in-Some.ensures.place) refl sealing c.in-Ok.ensures.turned (tells_all g.D.Device.state tells s.bay)) in
+    (sealed_turned first (sealed_core s.core m) s.programs old new c.push.new.self.events c.args.node m c.in-Some.place (sym c.in-Some.ensures.place) refl sealing c.in-Ok.ensures.turned tells) in
     subst (λ (x : Core). Leads first (staged x (stage.Saving work.SealedSync c.args.node)) s.programs new c.push.new.self.events) (sym (c.in_ok-seal-in-Ok.ensures.sealed m c.in-Some-opened.is ∙ ap (λ (k : List Cached). sealed_core (record s.core { kept = k }) m) c.reserve-2.ensures)) l
 
 pub returns-in-Err-clause-run : goal.returns-in-Err-clause-run
-returns-in-Err-clause-run g c = on_ok3 c.stop_by_fault.result (λ e k t. ends_saving g.D.Device.state c.args.self.now c.stop_by_fault.new.self c.in-Err.trouble (appended c.stop_by_fault.new.self.history.events c.reserve.new.self.events c.args.self.now.history.events (event.Stop (cause_of c.in-Err.trouble)) (event.Stop (cause_of c.in-Err.trouble)) e c.reserve.ensures.events refl) (k ∙ ap (λ (x : List Cached). let y : Core = record c.args.self.now.core { stage = stage.Cut; kept = x } in y) c.reserve-2.ensures) c.stop_by_fault.ensures.fixed.programs work.Sealed c.args.node c.requires.stage t c.put_gate.new.bay c.stop_by_fault.ensures.bay (sealing_left g.D.Device.state c.args.self.now c.args.node c.in-Some.place c.put_gate.new.bay c.in-Some-opened.m c.in-Err.trouble t c.in-Some-opened.is (sym c.in-Some.ensures.place) c.in-Err.ensures.refused))
+returns-in-Err-clause-run g c = on_ok3 c.stop_by_fault.result (λ e k t. ends_saving g.D.Device.state c.args.self.now c.stop_by_fault.new.self c.in-Err.trouble (appended c.stop_by_fault.new.self.history.events c.reserve.new.self.events c.args.self.now.history.events (event.Stop (cause_of c.in-Err.trouble)) (event.Stop (cause_of c.in-Err.trouble)) e c.reserve.ensures.events refl) (k ∙ ap (λ (x : List Cached). let y : Core = record c.args.self.now.core { stage = stage.Over; kept = x } in y) c.reserve-2.ensures) c.stop_by_fault.ensures.fixed.programs work.Sealed c.args.node c.requires.stage t c.put_gate.new.bay c.stop_by_fault.ensures.bay (sealing_left g.D.Device.state c.args.self.now c.args.node c.in-Some.place c.put_gate.new.bay c.in-Some-opened.m c.in-Err.trouble t c.in-Some-opened.is (sym c.in-Some.ensures.place) c.in-Err.ensures.refused))
     c.stop_by_fault.ensures.events c.stop_by_fault.ensures.core c.stop_by_fault.ensures.fault
 
 pub returns-in-Err-clause-told : goal.returns-in-Err-clause-told

@@ -7,7 +7,7 @@ use Rattle.site_core.specs.declared.core_state.Work.TheVariants as work
 use Rattle.site_core.proofs.Saving.{saving_leads}
 use Rattle.site_core.proofs.SaveMoves.{sealed_turned}
 use Rattle.site_core.proofs.Works.{saves_now, saved_is}
-use Rattle.site_core.proofs.Telling.{tells_all, on_ok2, on_ok3}
+use Rattle.site_core.proofs.Telling.{on_ok2, on_ok3}
 use Rattle.site_core.proofs.Refusals.{fault_is_told, fault_cause}
 use Rattle.site_core.proofs.Turns.{ends_saving, sealed_left, tells_end, moved_stays}
 use Rattle.site_core.proofs.AheadCores.{sealed_lower}
@@ -22,7 +22,7 @@ use Rattle.site_core.specs.Causes.{cause_of}
 use Rattle.site_core.proofs.site.Site.seal_next.Goals as goal
 
 pub returns-in-Ok-clause-run : goal.returns-in-Ok-clause-run
-returns-in-Ok-clause-run g c = λ tells first f.
+returns-in-Ok-clause-run g c = λ tells first base f.
     let s = c.args.self.now in
     let old = states_of g.D.Device.state s.bay in
     let new = states_of g.D.Device.state c.put_gate.new.bay in
@@ -30,7 +30,7 @@ returns-in-Ok-clause-run g c = λ tells first f.
     let which = saved_is first s.core s.programs old s.history.events work.Sealed c.args.node h.0 c.in-Some-saved.which h.1 c.in-Some-saved.ensures in
     let turned = subst (λ (w : DataId). OnlyAt c.in-Some.place (Turned (record_name w c.args.node) 1) old new) which c.in-Ok.ensures.turned in
     with_room c.reserve.ensures.events (saving_leads first s.core s.programs new s.history.events work.SealedSync c.args.node h.0
-    (sealed_turned first s.core s.programs old new s.history.events c.args.node h.0 c.in-Some.place (sym c.in-Some.ensures.place) c.requires.closed h.1 turned (tells_all g.D.Device.state tells s.bay)))
+    (sealed_turned first s.core s.programs old new s.history.events c.args.node h.0 c.in-Some.place (sym c.in-Some.ensures.place) c.requires.closed h.1 turned tells))
 
 pub returns-in-Err-clause-run : goal.returns-in-Err-clause-run
 returns-in-Err-clause-run g c = on_ok3 c.stop_by_fault.result (λ e k t. ends_saving g.D.Device.state c.args.self.now c.stop_by_fault.new.self c.in-Err.trouble (behind _ e c.reserve.ensures.events) k c.stop_by_fault.ensures.fixed.programs work.Sealed c.args.node c.requires.stage t c.put_gate.new.bay c.stop_by_fault.ensures.bay (sealed_left g.D.Device.state c.args.self.now c.args.node c.in-Some.place c.put_gate.new.bay c.in-Some-saved.which (cause_of c.in-Err.trouble) c.requires.closed (sym c.in-Some.ensures.place) c.in-Some-saved.ensures c.in-Err.ensures.refused))

@@ -21,7 +21,7 @@ use Rattle.round_core.specs.declared.seat.Seat.{Seat}
 use Rattle.site_core.proofs.site.Site.settle.Goals as goal
 
 pub returns-in_ok-push-in-Ok-clause-run : goal.returns-in_ok-push-in-Ok-clause-run
-returns-in_ok-push-in-Ok-clause-run g c = λ tells first f.
+returns-in_ok-push-in-Ok-clause-run g c = λ tells first base f.
     let s = c.args.self.now in
     let old = states_of g.D.Device.state s.bay in
     let new = states_of g.D.Device.state c.sync_node.new.bay in

@@ -18,7 +18,7 @@ use Rattle.site_core.proofs.InOrder.{owed_order}
 use Rattle.site_core.proofs.site.Site.start.Goals as goal
 
 pub returns-clause-run : goal.returns-clause-run
-returns-clause-run g c = λ tells first f.
+returns-clause-run g c = λ tells first base f.
     let s = c.args.self.now in
     let states = states_of g.D.Device.state s.bay in
     let answer = reply.Started c.in-Some.which in

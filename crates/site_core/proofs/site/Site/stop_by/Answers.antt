@@ -6,4 +6,4 @@ use Rattle.site_core.proofs.site.Site.stop_by.Goals as goal
 pub returns-clause-lowers : goal.returns-clause-lowers
 returns-clause-lowers g c = λ on.
     let s = c.args.self.now in
-    cut_lower s.core (record s.core { stage = stage.Cut }) s.programs on refl refl refl
+    cut_lower s.core (record s.core { stage = stage.Over }) s.programs on refl refl refl

@@ -4,7 +4,6 @@ use Rattle.ckpt_model.specs.declared.event.Event.TheVariants as event
 use Rattle.node_device.specs.Rack.{states_of}
 use Rattle.site_core.specs.Holds.{Leads}
 use Rattle.site_core.proofs.Told.{appended, behind}
-use Rattle.site_core.proofs.Telling.{tells_all}
 use Rattle.site_core.proofs.Stored.{stepped, arrived}
 use Rattle.site_core.specs.Causes.{cause_of}
 use Rattle.site_core.proofs.Telling.{on_ok2, on_ok3}
@@ -17,18 +16,18 @@ use Rattle.site_core.proofs.Fulls.{end_full, at_prefix}
 use Rattle.site_core.proofs.site.Site.store.Goals as goal
 
 pub returns-then-not-over-clause-run : goal.returns-then-not-over-clause-run
-returns-then-not-over-clause-run g c = λ tells first f.
+returns-then-not-over-clause-run g c = λ tells first base f.
     let s = c.args.self.now in
     let state = g.D.Device.state in
-    let l = stepped first s.core s.programs (states_of state s.bay) (states_of state c.store_number.new.bay) s.history.events c.in-Ok.over c.store_number.new.storing c.requires c.store_number.ensures.want c.in-Ok.ensures.steps (tells_all state tells c.store_number.new.bay 32 (omega arith)) f in
+    let l = stepped first s.core s.programs (states_of state s.bay) (states_of state c.store_number.new.bay) s.history.events c.in-Ok.over c.store_number.new.storing c.requires c.store_number.ensures.want c.in-Ok.ensures.steps (c.store_number.ensures.tells 32 ∙ tells 32 (omega arith)) f in
     subst (λ (es : List Event). Leads first (record s.core { storing = c.store_number.new.storing }) s.programs (states_of state c.store_number.new.bay) es) (sym c.reserve.ensures.events) l
 
 pub returns-in_ok-push-in-Ok-clause-run : goal.returns-in_ok-push-in-Ok-clause-run
-returns-in_ok-push-in-Ok-clause-run g c = λ tells first f.
+returns-in_ok-push-in-Ok-clause-run g c = λ tells first base f.
     let s = c.args.self.now in
     let state = g.D.Device.state in
     let told = appended c.push.new.self.events c.reserve.new.self.events s.history.events (event.Run s.core.run c.in_ok-places.places) (event.Run s.core.run s.core.places) c.in_ok-push-in-Ok.ensures.events c.reserve.ensures.events (ap (λ (p : List ℕ). event.Run s.core.run p) c.in_ok-places.ensures) in
-    arrived first s.core s.programs (states_of state s.bay) (states_of state c.store_number.new.bay) s.history.events c.push.new.self.events c.in-Ok.over c.store_number.new.storing c.requires c.if-not-over.false (tells_all state tells s.bay) c.in-Ok.ensures.steps told f
+    arrived first s.core s.programs (states_of state s.bay) (states_of state c.store_number.new.bay) s.history.events c.push.new.self.events c.in-Ok.over c.store_number.new.storing c.requires c.if-not-over.false tells c.in-Ok.ensures.steps told f
 
 pub returns-in-Err-clause-run : goal.returns-in-Err-clause-run
 returns-in-Err-clause-run g c = on_ok3 c.stop_by.result (λ e k t. ends_storing g.D.Device.state c.args.self.now c.stop_by.new.self c.in-Err.trouble (appended c.stop_by.new.self.history.events c.reserve.new.self.events c.args.self.now.history.events (event.Stop (cause_of c.in-Err.trouble)) (event.Stop (cause_of c.in-Err.trouble)) e c.reserve.ensures.events refl) c.store_number.new.storing k c.stop_by.ensures.fixed.programs c.requires t c.store_number.new.bay c.stop_by.ensures.bay c.in-Err.ensures.refused)

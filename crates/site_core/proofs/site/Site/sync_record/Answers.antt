@@ -17,7 +17,7 @@ use Rattle.site_core.proofs.AheadCores.{record_done, record_sync_over}
 use Rattle.site_core.proofs.site.Site.sync_record.Goals as goal
 
 pub returns-in-Ok-clause-run : goal.returns-in-Ok-clause-run
-returns-in-Ok-clause-run g c = λ tells first f.
+returns-in-Ok-clause-run g c = λ tells first base f.
     let s = c.args.self.now in
     let old = states_of g.D.Device.state s.bay in
     let new = states_of g.D.Device.state c.sync_node.new.bay in
@@ -26,7 +26,7 @@ returns-in-Ok-clause-run g c = λ tells first f.
     subst (λ (x : Stage). Leads first (staged s.core x) s.programs new s.history.events) (sym c.after-self.ensures) l
 
 pub returns-in-Err-clause-run : goal.returns-in-Err-clause-run
-returns-in-Err-clause-run g c = on_ok c.carry.result (λ x tells first f.
+returns-in-Err-clause-run g c = on_ok c.carry.result (λ x tells first base f.
     let s = c.args.self.now in
     let state = g.D.Device.state in
     let old = states_of state s.bay in

@@ -19,7 +19,7 @@ use Rattle.site_core.proofs.Told.{behind, with_room}
 use Rattle.site_core.proofs.site.Site.sync_removal.Goals as goal
 
 pub returns-in-Ok-clause-run : goal.returns-in-Ok-clause-run
-returns-in-Ok-clause-run g c = λ tells first f.
+returns-in-Ok-clause-run g c = λ tells first base f.
     let s = c.args.self.now in
     let old = states_of g.D.Device.state s.bay in
     let new = states_of g.D.Device.state c.sync_node.new.bay in

@@ -4,7 +4,7 @@ use Rattle.node_device.specs.Rack.{states_of}
 use Rattle.site_core.specs.declared.core_state.Core.{Core}
 use Rattle.site_core.specs.Holds.{Leads}
 use Rattle.site_core.proofs.Numbering.{numbered, numbered_core}
-use Rattle.site_core.proofs.Telling.{tells_of, same_states, on_ok2, on_ok3}
+use Rattle.site_core.proofs.Telling.{same_states, on_ok2, on_ok3}
 use Rattle.site_core.proofs.CallCauses.{no_write}
 use Rattle.site_core.proofs.Turns.{ends_early, tells_end, moved_stays}
 use Rattle.round_core.specs.declared.seat.Seat.{Seat}
@@ -16,7 +16,7 @@ use Rattle.site_core.proofs.AheadCores.{numbered_lower}
 use Rattle.site_core.proofs.site.Site.take_halt.Goals as goal
 
 pub returns-in-Ok-clause-run : goal.returns-in-Ok-clause-run
-returns-in-Ok-clause-run g c = λ tells first f.
+returns-in-Ok-clause-run g c = λ tells first base f.
     let s = c.args.self.now in
     let state = g.D.Device.state in
     let states = states_of state s.bay in
@@ -25,7 +25,7 @@ returns-in-Ok-clause-run g c = λ tells first f.
     let same = same_states 32 states (states_of state c.halt_now.new.bay) c.in-Ok.ensures.same in
     subst (λ (x : Core). Leads first x s.programs (states_of state c.halt_now.new.bay) s.history.events) (sym c.number.ensures)
     (subst (λ (st : ℕ → DeviceState). Leads first (numbered_core s.core (n + 1) c.in-Ok.halt) s.programs st s.history.events) (sym same)
-    (numbered first s.core s.programs states s.history.events n c.in-Ok.halt c.requires.stage fits (c.requires.last tells) (c.in-Ok.ensures.halt (tells_of state tells s.bay 32)) f))
+    (numbered first s.core s.programs states s.history.events n c.in-Ok.halt c.requires.stage fits (c.requires.last tells) (c.in-Ok.ensures.halt (tells 32 (omega arith))) f))
 
 pub returns-in-Err-clause-run : goal.returns-in-Err-clause-run
 returns-in-Err-clause-run g c = on_ok3 c.stop_by.result (λ e k t. ends_early g.D.Device.state c.args.self.now c.stop_by.new.self c.in-Err.trouble e k c.stop_by.ensures.fixed.programs (inl c.requires.stage) t c.halt_now.new.bay c.stop_by.ensures.bay c.in-Err.ensures.refused)

@@ -14,7 +14,7 @@ use Rattle.site_core.proofs.Accounts.{untouched}
 use Rattle.site_core.proofs.site.Site.tell_local.Goals as goal
 
 pub returns-clause-run : goal.returns-clause-run
-returns-clause-run g c = λ tells first follows.
+returns-clause-run g c = λ tells first base follows.
     let s = c.args.self.now in
     let state = g.D.Device.state in
     let n = c.requires.next in

@@ -16,7 +16,7 @@ use Rattle.site_core.proofs.InOrder.{owed_order}
 use Rattle.site_core.proofs.site.Site.tell_round.Goals as goal
 
 pub returns-clause-run : goal.returns-clause-run
-returns-clause-run g c = λ tells first f.
+returns-clause-run g c = λ tells first base f.
     let s = c.args.self.now in
     let states = states_of g.D.Device.state s.bay in
     let told = appended c.push.new.self.events c.reserve.new.self.events s.history.events (event.Decided c.args.kind c.args.answer) (event.Decided c.args.kind c.args.answer) c.in_ok-push.ensures.events c.reserve.ensures.events refl in

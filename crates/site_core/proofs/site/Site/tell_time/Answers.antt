@@ -4,9 +4,13 @@ use Rattle.site_core.proofs.Times.{told_time, asking, unread}
 use Rattle.site_core.proofs.site.Site.tell_time.Goals as goal
 
 pub returns-clause-run : goal.returns-clause-run
-returns-clause-run g c = λ tells first f.
+returns-clause-run g c = λ first f.
     let s = c.args.self.now in
-    told_time first s.core s.programs (states_of g.D.Device.state s.bay) s.history.events c.push.new.history.events c.args.now c.requires c.in_ok-push.ensures.events f
+    record {
+      tells = f.tells;
+      fair = f.fair;
+      leads = told_time first s.core s.programs (states_of g.D.Device.state s.bay) s.history.events c.push.new.history.events c.args.now c.requires c.in_ok-push.ensures.events f.leads;
+    }
 
 pub returns-clause-lowers : goal.returns-clause-lowers
 returns-clause-lowers g c =

@@ -12,7 +12,7 @@ use Rattle.site_core.specs.Cores.{with_rows, with_open}
 use Rattle.site_core.specs.declared.core_state.Core.{Core}
 use Rattle.site_core.proofs.Told.{appended, behind}
 use Rattle.site_core.proofs.LocalCalls.{clear_write}
-use Rattle.site_core.proofs.LocalSteps.{write_told, each_tells, hand_opened, lead_on}
+use Rattle.site_core.proofs.LocalSteps.{write_told, hand_opened, lead_on}
 use Rattle.site_core.proofs.Telling.{on_ok2}
 use Rattle.site_core.proofs.LocalRefusals.{keeps_put}
 use Rattle.site_core.proofs.AheadCores.{stepped_run}
@@ -31,7 +31,7 @@ pub end_of-end-requires : goal.end_of-end-requires
 end_of-end-requires g c = (clear_write c.args.self.now.core c.args.rank c.args.word c.args.at c.args.content c.requires.clear).short
 
 pub returns-in-Ok-clause-run : goal.returns-in-Ok-clause-run
-returns-in-Ok-clause-run g c = λ tells first follows.
+returns-in-Ok-clause-run g c = λ tells first base follows.
     let s = c.args.self.now in
     let state = g.D.Device.state in
     let n = c.requires.next in
@@ -49,7 +49,7 @@ returns-in-Ok-clause-run g c = λ tells first follows.
     lead_on first (with_open s.core (with_rows m rank (extended (rows_of m.files rank) file c.end_of-end.result)) (slice_set s.core.ranks rank (stepped n.seat))) after.core s.programs after.programs (states_of state c.put_part.new.bay) (states_of state after.bay) after.history.events
     core c.go_past.ensures.fixed.programs (ap (states_of state) c.go_past.ensures.bay)
     (write_told first s.core s.programs (states_of state s.bay) (states_of state c.put_part.new.bay) s.history.events after.history.events rank file c.args.word c.args.at c.args.content c.list.result.now c.end_of-end.result c.in-Some.spot
-    c.requires.stage n c.requires.clear c.in-Some.ensures number c.number_of-file.ensures.rows (c.list.ensures ∙ c.in_ok-bytes.ensures) c.end_of-end.ensures c.in-Ok.ensures.written (λ p low. each_tells state s.bay tells p) more follows)
+    c.requires.stage n c.requires.clear c.in-Some.ensures number c.number_of-file.ensures.rows (c.list.ensures ∙ c.in_ok-bytes.ensures) c.end_of-end.ensures c.in-Ok.ensures.written tells more follows)
 
 pub returns-in-Ok-clause-told : goal.returns-in-Ok-clause-told
 returns-in-Ok-clause-told g c =

@@ -6,7 +6,6 @@ use Rattle.site_core.specs.declared.core_state.Work.TheVariants as work
 use Rattle.site_core.proofs.Saving.{saving_leads}
 use Rattle.site_core.proofs.SaveMoves.{recorded}
 use Rattle.site_core.proofs.Works.{opened_is}
-use Rattle.site_core.proofs.Telling.{tells_all}
 use Rattle.site_core.proofs.Sounds.{sound_of}
 use Rattle.ckpt_model.specs.Track.{Track}
 use Rattle.ckpt_model.specs.declared.event.Event.{Event}
@@ -30,7 +29,7 @@ use Rattle.site_core.proofs.Fulls.{passes_this, to_record_write, record_to_write
 use Rattle.site_core.proofs.site.Site.write_record.Goals as goal
 
 pub returns-in-Ok-clause-run : goal.returns-in-Ok-clause-run
-returns-in-Ok-clause-run g c = λ tells first f.
+returns-in-Ok-clause-run g c = λ tells first base f.
     let s = c.args.self.now in
     let old = states_of g.D.Device.state s.bay in
     let new = states_of g.D.Device.state c.put_member.new.bay in
@@ -39,10 +38,10 @@ returns-in-Ok-clause-run g c = λ tells first f.
     let same : m ≡ h.0 = opened_is first s.core s.programs old s.history.events work.Record c.args.node h.0 m h.1 c.in-Some-opened.is in
     let saving = subst (λ (x : Manifest). IsSaving first s.core s.programs old s.history.events work.Record c.args.node x) (sym same) h.1 in
     saving_leads first s.core s.programs new s.history.events work.RecordSync c.args.node m
-    (recorded first s.core s.programs old new s.history.events c.args.node m c.in-Some.place (sym c.in-Some.ensures.place) saving c.in-Ok.ensures.recorded (tells_all g.D.Device.state tells s.bay) (sound_of g.D.Device.state g.met.D.Device.sound c.put_member.new.bay))
+    (recorded first s.core s.programs old new s.history.events c.args.node m c.in-Some.place (sym c.in-Some.ensures.place) saving c.in-Ok.ensures.recorded tells (sound_of g.D.Device.state g.met.D.Device.sound c.put_member.new.bay))
 
 pub returns-in-Err-clause-run : goal.returns-in-Err-clause-run
-returns-in-Err-clause-run g c = on_ok c.carry.result (λ x tells first f.
+returns-in-Err-clause-run g c = on_ok c.carry.result (λ x tells first base f.
     let s = c.args.self.now in
     let state = g.D.Device.state in
     let old = states_of state s.bay in
@@ -93,6 +92,7 @@ returns-in-Err-clause-accounted g c = on_ok c.carry.result (λ x.
       none = c.requires.free;
       now = ap carried x.2;
       of_device = told_faults c.in-Err.trouble x.0 x.1;
+      untold = ap (λ (t : Track). t.events) c.carry.ensures.history;
       cause = subst (λ (b : Rack _). IsRefusedFor may old (states_of g.D.Device.state b) (reply.Refused x.0)) (sym c.carry.ensures.bay) (refused_for (Unit {0}) may old (states_of g.D.Device.state c.put_member.new.bay) c.in-Err.trouble x.0 x.1 why);
     }))
     c.carry.ensures.core

@@ -1,6 +1,0 @@
-pub mod Contents
-pub mod Kept
-pub mod Proper
-pub mod Showing
-pub mod Stopped
-pub mod Empty
