@@ -161,6 +161,8 @@ def check_names():
     about_code = [path for path in documents() if path.parent.name != "docs" or path.stem in ("PROMISES", "ARCHITECTURE", "DEFINITIONS", "GLOSSARY")]
     for path in about_code:
         for name in re.findall(r"`([^`\n]+)`", re.sub(r"```.*?```", "", path.read_text(), flags=re.S)):
+            if "/" in name and (TOP / name).exists():
+                continue
             if re.fullmatch(r"\w+((::|\.|/)\w+)*", name) and not re.match(r"\d|set$|d\.", name):
                 lost = [it for it in re.split(r"::|\.|/", name) if it not in words and it not in ("rt", "antt", "txt", "docs")]
                 if lost:
