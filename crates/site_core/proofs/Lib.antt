@@ -64,3 +64,4 @@ pub mod Closing
 pub mod RunsOut
 pub mod Faults
 pub mod Stands
+pub mod Empty

@@ -1,5 +1,5 @@
-//! What holds of every run's memory.
-ghost use Rattle.std.specs.Prelude.{◌≡◌, ◌≤◌, ◌++◌, ◌∷◌, [], ℕ, List, None, Some, false, length};
+//! What holds of every run.
+ghost use Rattle.std.specs.Prelude.{◌≡◌, ◌≤◌, ◌++◌, ◌∷◌, [], ℕ, List, None, Some, true, false, length};
 ghost use Rattle.scr_base.specs.declared.answers.Refusal.{Refusal};
 ghost use Rattle.scr_base.specs.declared.content.Step.{Step};
 ghost use Rattle.ckpt_model.specs.declared.event.Event.{Event};
@@ -9,6 +9,11 @@ ghost use Rattle.site_core.specs.Choosing.{due_in, wants_reading};
 ghost use Rattle.site_core.specs.Follows.{carried, CarriesNoMore, BecomesOf};
 ghost use Rattle.site_core.specs.Order.{GoesOn, HasEnds, IsInOrder};
 ghost use Rattle.site_core.specs.Waiting.{is_over};
+ghost use Rattle.node_device.specs.File.{IsEmpty};
+ghost use Rattle.node_device.specs.DeviceState.{DeviceState};
+ghost use Rattle.ckpt_model.specs.Machine.{Setup, empty_machine};
+ghost use Rattle.site_stands.specs.Described.{is_single};
+ghost use Rattle.site_core.specs.Holds.{CanBegin};
 
 /// A run that isn't over is never stuck: where each program ends with End, no reading of the clock is wanted and nothing is to be
 /// flushed, the turn of some actor moves.
@@ -20,4 +25,9 @@ pub fn a_run_goes_on()
 /// are what a rank's turn promises.
 pub fn a_call_finds_none_carried()
     ensures { (old new : Core) (before : List Event) (rank number : ℕ) (call : Step) → CarriesNoMore old new → ((refusal : Refusal) → carried old ≡ Some refusal → BecomesOf refusal new before (before ++ event.Call rank number call ∷ [])) → carried new ≡ None }
+{}
+
+/// Over devices that hold nothing, a run of a site that keeps no copies can begin: they stand for the state before the first run.
+pub fn a_run_can_begin_over_empty_devices()
+    ensures { (s : Setup) (states : ℕ → DeviceState) → is_single s.config.scheme ≡ true → ((p : ℕ) (q : List ℕ) → p ≤ 32 → IsEmpty ((states p).file q)) → CanBegin s states empty_machine }
 {}

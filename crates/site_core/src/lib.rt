@@ -29,7 +29,7 @@ mod verdict;
 pub use cache::{Cache, Cached, Manifest, Mark};
 pub use core_state::{Core, Drop, Stage, Work};
 pub use error::{SiteError, Trouble};
-pub use laws::{a_call_finds_none_carried, a_run_goes_on};
+pub use laws::{a_call_finds_none_carried, a_run_can_begin_over_empty_devices, a_run_goes_on};
 pub use places::Places;
 pub use programs::Programs;
 pub use removal::Removal;
