@@ -83,3 +83,31 @@ below_says limit ds None none fits = λ n lt is.
     let some : number_below limit ds ≡ Some n = rw is (below_again limit n lt (omega arith)) in
     absurd cc
 below_says limit ds (Some n) some fits = below_is_spelled limit n ds some
+
+pub le_is : (a b : ℕ) → nat_le a b ≡ true → a ≤ b
+le_is a b e = grind arith
+
+-- a number that is read between two others, and its digits
+pub record IsReadIn (low high n : ℕ) (ds : List ℕ) : Type 0 where
+  pub above : low ≤ n
+  pub below : n ≤ high
+  pub digits : IsDecimalOf n ds
+
+pub in_says : (low high n : ℕ) (ds : List ℕ) → number_in low high ds ≡ Some n → IsReadIn low high n ds
+unfolding number_in
+in_says low high n ds some = by_number (number_of ds) refl
+  where
+    by_number : (o : Option ℕ) → number_of ds ≡ o → IsReadIn low high n ds
+    by_number None e = let no : number_in low high ds ≡ None = rw e refl in absurd cc
+    by_number (Some m) e =
+        let read : number_in low high ds ≡ cond (nat_le low m && nat_le m high) (Some m) None = rw e refl in
+        let chosen = cond_some (nat_le low m && nat_le m high) m n (sym read ∙ some) in
+        let tests = both_are (nat_le low m) (nat_le m high) chosen.0 in
+        let is : m ≡ n = chosen.1 in
+        let low_is : low ≤ m = le_is low m tests.0 in
+        let high_is : m ≤ high = le_is m high tests.1 in
+        record {
+          above = omega arith;
+          below = omega arith;
+          digits = subst (λ (k : ℕ). IsDecimalOf k ds) is (number_says ds m e);
+        }

@@ -84,19 +84,3 @@ unfolding place_list
 places_stop devices before ws i d total lt h so_far =
     let one : place_list devices before (drop i (texts ws)) ≡ None = rw (words_at ws i d lt, h) refl in
     sym so_far ∙ one
-
--- ## Numbers below another
-
-range_more : (a n : ℕ) → range_with_len a (suc n) ≡ range_with_len a n ++ (a + n) ∷ []
-range_more a zero = ap (λ (m : ℕ). m ∷ []) (omega arith)
-range_more a (suc n) = ap (λ (ms : List ℕ). a ∷ ms) (range_more (a + 1) n ∙ ap (λ (m : ℕ). range_with_len (a + 1) n ++ m ∷ []) (omega arith))
-
-pub below_more : (n : ℕ) → numbers_below (n + 1) ≡ numbers_below n ++ n ∷ []
-below_more n = rw add-one (range_more 0 n ∙ ap (λ (m : ℕ). range_with_len 0 n ++ m ∷ []) (omega arith))
-
--- the numbers below another that pass a test, and one more
-pub chosen_yes : {A : Type 0} (p : ℕ → Bool) (f : ℕ → A) (n : ℕ) → p n ≡ true → map f (filter p (numbers_below (n + 1))) ≡ map f (filter p (numbers_below n)) ++ f n ∷ []
-chosen_yes p f n e = rw (below_more n, filter-append p (numbers_below n) (n ∷ []), map-append f (filter p (numbers_below n)) (filter p (n ∷ [])), e) refl
-
-pub chosen_no : {A : Type 0} (p : ℕ → Bool) (f : ℕ → A) (n : ℕ) → p n ≡ false → map f (filter p (numbers_below (n + 1))) ≡ map f (filter p (numbers_below n))
-chosen_no p f n e = rw (below_more n, filter-append p (numbers_below n) (n ∷ []), map-append f (filter p (numbers_below n)) (filter p (n ∷ [])), e) (append-nil (map f (filter p (numbers_below n))))

@@ -1,8 +1,7 @@
 -- Steps are read back as they are spelled.
-use Rattle.std.proofs.Common.{◌≡◌, ℕ, zero, suc, ◌+◌, ◌*◌, ◌/◌, ◌%◌, ◌<◌, ◌≤◌, List, [], ◌∷◌, Bool, true, false, refl, sym, ap, ◌∙◌, Option, Some, None, Ok, length, get_or, decimal, codes, arith, ◌&&◌}
+use Rattle.std.proofs.Common.{◌≡◌, ℕ, zero, suc, ◌+◌, ◌*◌, ◌/◌, ◌%◌, ◌<◌, ◌≤◌, List, [], ◌∷◌, ◌++◌, Bool, true, false, refl, sym, ap, ◌∙◌, Option, Some, None, Ok, length, get_or, decimal, codes, arith, ◌&&◌}
 use Rattle.std.specs.Prelude.{◌==◌, not, nat_le}
 use Rattle.std.specs.List.{list_all, list_any, All, AllByRecursion}
-use Rattle.std.proofs.lemmas.List.Elements.{All-from_get_or}
 use Rattle.std.proofs.lemmas.List.Splits.{slice_split_at, slice_split_none}
 use Rattle.std.proofs.lemmas.Fmt.{digits_decimal, decimal_nonempty}
 use Rattle.scr_base.specs.Words.{is_word_byte, is_word}
@@ -20,54 +19,42 @@ use Rattle.script_reader.specs.Numbers.{is_digit, number_in, hex_bytes, byte_in_
 use Rattle.script_reader.specs.Words.{pieces_of, words_of, is_empty}
 use Rattle.script_reader.specs.Values.{Size, ranks_of, who_of, line_of, rank_line, step_of, read_of, write_text, write_hex, write_fill, fill_in, length_in, number_at, word_in}
 use Rattle.script_reader.specs.Forms.{form_of, body_form, rank_form, step_form, bare_form, validity_form, valid_word, start_form, flags_word, write_form}
+use Rattle.script_reader.specs.Progress.{is_text}
 use Rattle.script_reader.specs.Spelled.{IsScriptContent, IsScriptStep, rank_text, IsReadAsStep}
+use Rattle.script_reader.proofs.Tests.{left_true, right_true, le_is, at_each, none_is, all_weaker, all_append}
 use Rattle.script_reader.proofs.Decimals.{own, decimal_is_read}
 
 -- ## Words of a line
 
-abbrev no_blank : List ℕ → Bool
-no_blank w = list_all (λ b. not (b == 32)) w
+abbrev pub is_visible : List ℕ → Bool
+is_visible w = list_all is_word_byte w
 
-not_true : (b : Bool) → not b ≡ true → b ≡ false
-not_true true e = cc
-not_true false e = refl
+pub not_blank : (b : ℕ) → is_word_byte b ≡ true → (b == 32) ≡ false
+not_blank b e = grind arith
 
-left_true : (a b : Bool) → (a && b) ≡ true → a ≡ true
-left_true true b e = refl
-left_true false b e = e
+pub unblank : (w : List ℕ) → is_visible w ≡ true → All (λ b. (b == 32) ≡ false) w
+unblank w e = none_is 32 is_word_byte not_blank w e
 
-right_true : (a b : Bool) → (a && b) ≡ true → b ≡ true
-right_true true b e = e
-right_true false b e = cc
+-- the bytes of each word are visible
+abbrev pub AreVisible : List (List ℕ) → Type 0
+AreVisible [] = Unit {0}
+AreVisible (w ∷ ws) = (is_visible w ≡ true) × AreVisible ws
 
--- byte by byte
-at_each : (p : ℕ → Bool) (w : List ℕ) (i : ℕ) → list_all p w ≡ true → i < length w → p (get_or w i 0) ≡ true
-at_each p [] i e lt = absurd (omega arith)
-at_each p (b ∷ w) zero e lt = left_true (p b) (list_all p w) e
-at_each p (b ∷ w) (suc i) e lt = at_each p w i (right_true (p b) (list_all p w) e) (omega arith)
-
-unblank : (w : List ℕ) → no_blank w ≡ true → All (λ b. (b == 32) ≡ false) w
-unblank w e = All-from_get_or (λ b. (b == 32) ≡ false) w 0 (λ i lt. not_true (get_or w i 0 == 32) (at_each (λ b. not (b == 32)) w i e lt))
-
--- no word has a blank
-abbrev Unblank : List (List ℕ) → Type 0
-Unblank [] = Unit {0}
-Unblank (w ∷ ws) = (no_blank w ≡ true) × Unblank ws
-
-pub words_split : (w : List ℕ) (ws : List (List ℕ)) → Unblank (w ∷ ws) → words_of (words (w ∷ ws)) ≡ w ∷ ws
+pub words_split : (w : List ℕ) (ws : List (List ℕ)) → AreVisible (w ∷ ws) → words_of (words (w ∷ ws)) ≡ w ∷ ws
 unfolding pieces_of
 words_split w [] h = slice_split_none (λ b. b == 32) w (unblank w h.0)
 words_split w (v ∷ ws) h = slice_split_at (λ b. b == 32) w 32 (words (v ∷ ws)) (unblank w h.0) refl ∙ ap (λ (vs : List (List ℕ)). w ∷ vs) (words_split v ws h.1)
 
-all_weaker : (p q : ℕ → Bool) → ((b : ℕ) → p b ≡ true → q b ≡ true) → (w : List ℕ) → list_all p w ≡ true → list_all q w ≡ true
-all_weaker p q h [] e = refl
-all_weaker p q h (b ∷ w) e = rw (h b (left_true (p b) (list_all p w) e), all_weaker p q h w (right_true (p b) (list_all p w) e)) refl
-
-visible : (b : ℕ) → is_word_byte b ≡ true → not (b == 32) ≡ true
-visible b e = grind arith
-
-digit_visible : (b : ℕ) → is_digit b ≡ true → not (b == 32) ≡ true
+pub digit_visible : (b : ℕ) → is_digit b ≡ true → is_word_byte b ≡ true
 digit_visible b e = grind arith
+
+visible_text : (b : ℕ) → is_word_byte b ≡ true → is_text b ≡ true
+visible_text b e = grind arith
+
+-- a line of such words has no other bytes
+pub words_text : (w : List ℕ) (ws : List (List ℕ)) → AreVisible (w ∷ ws) → list_all is_text (words (w ∷ ws)) ≡ true
+words_text w [] h = all_weaker is_word_byte is_text visible_text w h.0
+words_text w (v ∷ ws) h = all_append is_text w (32 ∷ words (v ∷ ws)) (all_weaker is_word_byte is_text visible_text w h.0) (words_text v ws h.1)
 
 record Word (w : List ℕ) : Type 0 where
   some : 1 ≤ length w
@@ -79,28 +66,25 @@ three true false c e = cc
 three true true false e = cc
 three true true true e = (refl, refl)
 
-le_true : (a b : ℕ) → nat_le a b ≡ true → a ≤ b
-le_true a b e = grind arith
-
 word_parts : (w : List ℕ) → is_word w ≡ true → Word w
 word_parts w e =
     let p = three (nat_le 1 (length w)) (nat_le (length w) 80) (list_all is_word_byte w) e in
-    record { some = le_true 1 (length w) p.0; bytes = p.1 }
+    record { some = le_is 1 (length w) p.0; bytes = p.1 }
 
-full : (w : List ℕ) → 0 < length w → is_empty w ≡ false
+pub full : (w : List ℕ) → 0 < length w → is_empty w ≡ false
 full w lt = grind arith
 
 word_full : (w : List ℕ) → is_word w ≡ true → is_empty w ≡ false
 word_full w e = let p = word_parts w e in full w p.some
 
-word_clear : (w : List ℕ) → is_word w ≡ true → no_blank w ≡ true
-word_clear w e = let p = word_parts w e in all_weaker is_word_byte (λ b. not (b == 32)) visible w p.bytes
+word_clear : (w : List ℕ) → is_word w ≡ true → is_visible w ≡ true
+word_clear w e = let p = word_parts w e in p.bytes
 
 decimal_full : (n : ℕ) → n ≤ 1048576 → is_empty (decimal n) ≡ false
 decimal_full n small = full (decimal n) (decimal_nonempty n (omega arith))
 
-decimal_clear : (n : ℕ) → n ≤ 1048576 → no_blank (decimal n) ≡ true
-decimal_clear n small = all_weaker is_digit (λ b. not (b == 32)) digit_visible (decimal n) (digits_decimal own n (omega arith))
+decimal_clear : (n : ℕ) → n ≤ 1048576 → is_visible (decimal n) ≡ true
+decimal_clear n small = all_weaker is_digit is_word_byte digit_visible (decimal n) (digits_decimal own n (omega arith))
 
 -- a number in its range
 num : (high n : ℕ) → n ≤ high → high ≤ 1048576 → number_in 0 high (decimal n) ≡ Some n
@@ -109,7 +93,7 @@ num high n le small = decimal_is_read 0 high n (decimal n) (record { above = ome
 -- ## A line of a step
 
 go : (z : Size) (who : List ℕ) (first last : ℕ) (s : Step) (k : StepForm) (rest : List (List ℕ)) → is_word who ≡ true → who_of (ranks_of z) who ≡ Some (first, last)
-    → Unblank rest → list_any is_empty rest ≡ false → rank_text who s ≡ words (codes "rank" ∷ who ∷ rest)
+    → AreVisible rest → list_any is_empty rest ≡ false → rank_text who s ≡ words (codes "rank" ∷ who ∷ rest)
     → step_form (codes "rank" ∷ who ∷ rest) ≡ Some k → step_of k (codes "rank" ∷ who ∷ rest) ≡ Ok s → IsReadAsStep z (rank_text who s) first last s
 unfolding form_of body_form rank_form line_of rank_line
 go z who first last s k rest word meant clear some text form values =
@@ -118,6 +102,7 @@ go z who first last s k rest word meant clear some text form values =
       kind = k;
       form = rw (split, word_full who word, some, form) refl;
       values = rw (split, values, meant) refl;
+      bytes = ap (list_all is_text) text ∙ words_text (codes "rank") (who ∷ rest) (refl, (word_clear who word, clear));
     }
 
 -- ## Bytes in hexadecimal
@@ -136,7 +121,7 @@ reads_it (Some x) d e = let k : x ≡ d = grind arith in ap (λ (y : ℕ). Some 
 digits_back : list_all (λ d. reads (hex_value (hex_digit d)) d) (numbers_below 16) ≡ true
 digits_back = refl
 
-digits_clear : list_all (λ d. not (hex_digit d == 32)) (numbers_below 16) ≡ true
+digits_clear : list_all (λ d. is_word_byte (hex_digit d)) (numbers_below 16) ≡ true
 digits_clear = refl
 
 digit_at : (p : ℕ → Bool) (d : ℕ) → d < 16 → list_all p (numbers_below 16) ≡ true → p d ≡ true
@@ -159,11 +144,11 @@ unfolding hex_bytes
 hex_back [] h = refl
 hex_back (b ∷ bs) h = rw (byte_back b h.0, hex_back bs h.1) refl
 
-hex_clear : (bs : List ℕ) → AllByRecursion (λ b. b < 256) bs → no_blank (hex_text bs) ≡ true
+hex_clear : (bs : List ℕ) → AllByRecursion (λ b. b < 256) bs → is_visible (hex_text bs) ≡ true
 hex_clear [] h = refl
 hex_clear (b ∷ bs) h =
     let small : b < 256 = h.0 in
-    rw (digit_at (λ d. not (hex_digit d == 32)) (b / 16) (omega arith) digits_clear, digit_at (λ d. not (hex_digit d == 32)) (b % 16) (omega arith) digits_clear, hex_clear bs h.1) refl
+    rw (digit_at (λ d. is_word_byte (hex_digit d)) (b / 16) (omega arith) digits_clear, digit_at (λ d. is_word_byte (hex_digit d)) (b % 16) (omega arith) digits_clear, hex_clear bs h.1) refl
 
 hex_full : (bs : List ℕ) → 0 < length bs → is_empty (hex_text bs) ≡ false
 hex_full [] lt = absurd (omega arith)

@@ -10,3 +10,5 @@ pub mod Progress
 pub mod Readers
 pub mod Grammar
 pub mod Spelled
+pub mod Spellings
+pub mod ScriptTexts

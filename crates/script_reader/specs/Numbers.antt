@@ -1,8 +1,7 @@
 -- Numbers and bytes as they are spelled.
-use Rattle.std.specs.Prelude.{ℕ, ◌≡◌, ◌≤◌, decimal, ◌+◌, ◌*◌, ◌-◌, ◌==◌, ◌&&◌, not, nat_le, Bool, true, List, [], ◌∷◌, length, fold, Option, Some, None, Result, Err, option_map, option_and_then, if◌then◌else◌}
-use Rattle.std.specs.List.{list_all}
+use Rattle.std.specs.Prelude.{ℕ, ◌≡◌, ◌≤◌, decimal, ◌+◌, ◌*◌, ◌-◌, ◌==◌, min, Bool, List, [], ◌∷◌, length, Option, Some, None, Result, Err, option_map, option_and_then, if◌then◌else◌}
 use Rattle.scr_base.specs.Words.{is_between}
-use Rattle.scr_base.specs.Limits.{is_in}
+use Rattle.decimal.specs.Numbers.{number_in as decimal_in}
 use Rattle.script_reader.specs.Reasons.{or_reason}
 use Rattle.script_reader.specs.declared.reason.Reason.{Reason}
 use Rattle.script_reader.specs.declared.reason.Reason.TheVariants as reason
@@ -10,22 +9,9 @@ use Rattle.script_reader.specs.declared.reason.Reason.TheVariants as reason
 abbrev pub is_digit : ℕ → Bool
 is_digit b = is_between 48 57 b
 
--- no 0 before another digit
-abbrev pub begins_well : List ℕ → Bool
-begins_well [] = true
-begins_well (b ∷ []) = true
-begins_well (b ∷ c ∷ bs) = not (b == 48)
-
--- 1 to 10 digits, the first of several not 0
-abbrev pub is_number : List ℕ → Bool
-is_number w = nat_le 1 (length w) && nat_le (length w) 10 && list_all is_digit w && begins_well w
-
-abbrev pub value : List ℕ → ℕ
-value w = fold (λ n b. 10 * n + (b - 48)) 0 w
-
--- the number that a word is, if it lies between two others
+-- the number of at most 10 digits that a word is, if it lies between two others
 unfoldable pub number_in : ℕ → ℕ → List ℕ → Option ℕ
-number_in low high w = if is_number w && is_in low high (value w) then Some (value w) else None
+number_in low high w = decimal_in low (min high 9999999999) w
 
 -- the value of a digit in lower case hexadecimal
 abbrev pub hex_digit : ℕ → Option ℕ

@@ -16,7 +16,6 @@ use Rattle.script_reader.specs.declared.script.TurnLine.{TurnLine}
 use Rattle.script_reader.specs.declared.line.Line.{Line}
 use Rattle.script_reader.specs.declared.line.Line.TheVariants as line
 use Rattle.script_reader.specs.declared.line.RankStep.{RankStep}
-use Rattle.script_reader.specs.declared.routes.Routed.{Routed}
 use Rattle.script_reader.specs.declared.run.Left.{Left}
 use Rattle.script_reader.specs.declared.settings.Settings.{Settings}
 use Rattle.script_reader.specs.declared.stage.Stage.{Stage}
@@ -26,7 +25,7 @@ use Rattle.script_reader.specs.Words.{words_of, word_at}
 use Rattle.script_reader.specs.Forms.{form_of}
 use Rattle.script_reader.specs.Values.{Size, ranks_of, number_at, line_of}
 use Rattle.script_reader.specs.Settings.{no_settings, is_set, set_by, fits}
-use Rattle.script_reader.specs.Routes.{passes_routes, routes_after}
+use Rattle.script_reader.specs.Routes.{Files, passes_routes, no_routes, routes_after}
 use Rattle.script_reader.specs.Run.{programs_of, cost_of, spent}
 
 -- the site, the settings and the items so far, the open run, and what the script may still have
@@ -38,7 +37,7 @@ pub record Progress : Type 0 where
   pub places : List ℕ
   pub steps : List RankStep
   pub turns : List TurnLine
-  pub routes : List Routed
+  pub routes : List Files
   pub left : Left
 
 -- the limits of a script
@@ -145,15 +144,15 @@ setting_taken p key words = do
 unfoldable pub run_taken : Progress → List ℕ → Result Progress Reason
 run_taken p places =
     if p.left.runs == 0 then Err reason.Limit
-    else Ok (record p { stage = stage.Ranks; places = places; left = record p.left { runs = p.left.runs - 1 } })
+    else Ok (record p { stage = stage.Ranks; places = places; routes = no_routes (ranks_of p.site); left = record p.left { runs = p.left.runs - 1 } })
 
 -- a step of the open run, if the file isn't too long, no rank has too many files, and there is enough left
 unfoldable pub step_taken : Progress → RankStep → Result Progress Reason
 step_taken p given = do
   cost ← or_reason reason.FileEnd (cost_of given)
-  _ ← unless (if passes_routes p.routes (ranks_of p.site) given then Some reason.Routes else None)
+  _ ← unless (if passes_routes p.routes given then Some reason.Routes else None)
   left ← or_reason reason.Limit (spent p.left cost)
-  Ok (record p { steps = p.steps ++ given ∷ []; routes = routes_after p.routes (ranks_of p.site) given; left = left })
+  Ok (record p { steps = p.steps ++ given ∷ []; routes = routes_after p.routes given; left = left })
 
 -- turns of the open run, if there are enough left
 unfoldable pub turn_taken : Progress → TurnLine → Result Progress Reason

@@ -1,6 +1,6 @@
 -- Steps as a history spells them, in a line of a script.
-use Rattle.std.specs.Prelude.{ℕ, ◌≡◌, ◌<◌, ◌≤◌, List, [], ◌∷◌, length, codes, IsTrue, Some, Ok}
-use Rattle.std.specs.List.{AllByRecursion}
+use Rattle.std.specs.Prelude.{ℕ, ◌≡◌, ◌<◌, ◌≤◌, List, [], ◌∷◌, length, codes, IsTrue, true, Some, Ok}
+use Rattle.std.specs.List.{AllByRecursion, list_all}
 use Rattle.scr_base.specs.Words.{is_word}
 use Rattle.scr_base.specs.declared.content.Content.{Content}
 use Rattle.scr_base.specs.declared.content.Content.TheVariants as content
@@ -14,6 +14,7 @@ use Rattle.script_reader.specs.declared.line.Line.TheVariants as line
 use Rattle.script_reader.specs.Words.{words_of}
 use Rattle.script_reader.specs.Forms.{form_of}
 use Rattle.script_reader.specs.Values.{Size, ranks_of, who_of, line_of}
+use Rattle.script_reader.specs.Progress.{is_text}
 
 -- what a script may write
 abbrev pub IsScriptContent : Content → Type 0
@@ -34,11 +35,12 @@ IsScriptStep _ = Unit {0}
 abbrev pub rank_text : List ℕ → Step → List ℕ
 rank_text who s = words (codes "rank" ∷ who ∷ step_text s ∷ [])
 
--- the line is read as this step of the ranks from the first to the last
+-- the line has only bytes of a text, and is read as this step of the ranks from the first to the last
 pub record IsReadAsStep (z : Size) (text : List ℕ) (first last : ℕ) (s : Step) : Type 0 where
   pub kind : StepForm
   pub form : form_of text (words_of text) ≡ Some (form.Body (body.Rank kind))
   pub values : line_of z (body.Rank kind) text (words_of text) ≡ Ok (line.Rank (record { first = first; last = last; step = s }))
+  pub bytes : list_all is_text text ≡ true
 
 -- each step is read back as it is spelled
 abbrev pub AreReadAsSpelled : Type 0

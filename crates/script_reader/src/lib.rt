@@ -17,9 +17,9 @@ mod step_form;
 mod values;
 mod words;
 
-pub use laws::{numbers_are_decimal, pieces_make_the_text, steps_are_read_as_spelled};
+pub use laws::{
+    lines_are_read_back, numbers_are_decimal, pieces_make_the_text, scripts_are_read_back,
+    steps_are_read_as_spelled,
+};
 pub use reading::{ScriptError, read_script};
 pub use script::{Item, RunItem, Script, TurnLine};
-
-#[cfg(test)]
-mod tests;

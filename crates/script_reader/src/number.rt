@@ -1,69 +1,23 @@
 //! Numbers and bytes as they are spelled.
-ghost use Rattle.std.specs.Prelude.{◌≡◌, ◌≤◌, ◌<◌, ◌^◌, true, length, IfSome, slice_index};
-ghost use Rattle.std.specs.List.{list_all};
-ghost use Rattle.script_reader.specs.Numbers.{is_digit, begins_well, is_number, value, number_in, hex_digit, byte_in_hex, hex_bytes, bytes_in_hex};
+ghost use Rattle.std.specs.Prelude.{◌≡◌, ◌≤◌, ◌<◌, length, IfSome};
+ghost use Rattle.script_reader.specs.Numbers.{number_in, hex_digit, byte_in_hex, hex_bytes, bytes_in_hex};
 ghost use Rattle.script_reader.specs.Reasons.{Gives, or_reason};
 
 use crate::reason::{LineError, Reason};
+use decimal::number_in as decimal_in;
 use scr_base::Bytes;
 use std::alloc::Global;
 
-fn is_digit(byte: u8) -> bool
-    ensures { result ≡ is_digit byte }
-{
-    byte >= b'0' && byte <= b'9'
-}
+/// The greatest number: it has 10 digits.
+pub(crate) const GREATEST: u64 = 9_999_999_999;
 
-fn has_digits(word: &[u8]) -> bool
-    ensures { result ≡ list_all is_digit word.now }
-{
-    word.iter().all(|byte| is_digit(*byte))
-}
-
-/// Whether the word doesn't begin with a 0 that another byte follows.
-fn begins_well(word: &[u8]) -> bool
-    ensures { result ≡ begins_well word.now }
-{
-    match word {
-        [b'0', _, ..] => false,
-        _ => true,
-    }
-}
-
-/// Whether the word is a number: up to 10 digits, the first of several not 0.
-fn is_number(word: &[u8]) -> bool
-    ensures { result ≡ is_number word.now }
-{
-    word.len() >= 1 && word.len() <= 10 && has_digits(word) && begins_well(word)
-}
-
-fn value(word: &[u8]) -> u64
-    requires digits { list_all is_digit word.now ≡ true }
-    requires short { length word.now ≤ 10 }
-    ensures { result ≡ value word.now }
-{
-    let mut number = 0;
-    for digit in word {
-        number = 10 * number + (*digit - b'0') as u64;
-    }
-    number
-}
-
-/// The number that the word is, if it lies between the two others.
+/// The number of at most 10 digits that the word is, if it lies between the two others.
 #[tactic(auto, unfolding(crate::specs::Numbers::number_in))]
 pub(crate) fn number_in(word: &[u8], low: u64, high: u64) -> Option<u64>
     ensures number { result ≡ number_in low high word.now }
     ensures within { IfSome result (λ n. n ≤ high) }
 {
-    if !is_number(word) {
-        return None;
-    }
-    let number = value(word);
-    if number >= low && number <= high {
-        Some(number)
-    } else {
-        None
-    }
+    decimal_in(word, low, high.min(GREATEST))
 }
 
 pub(crate) fn small_in(word: &[u8], low: u8, high: u8) -> Option<u8>

@@ -6,7 +6,7 @@ ghost use Rattle.script_reader.specs.Progress.{is_text, is_skipped, is_before, i
 use crate::form::{BodyForm, Form, Key, form_of};
 use crate::line::{Line, RankStep};
 use crate::reason::{LineError, Reason};
-use crate::routes::{Routed, note_step, passes_routes};
+use crate::routes::{Routes, no_routes, note_step, passes_routes};
 use crate::run::{Left, cost_of, programs_of, spent};
 use crate::script::{Item, RunItem, TurnLine};
 use crate::settings::{Settings, config_of, is_set, no_settings, set_by};
@@ -29,7 +29,7 @@ pub struct Reader {
     pub places: Bytes,
     pub steps: Vec<RankStep>,
     pub turns: Vec<TurnLine>,
-    pub routes: Vec<Routed>,
+    pub routes: Vec<Routes>,
     pub left: Left,
 }
 
@@ -222,12 +222,13 @@ impl Reader {
     }
 
     #[tactic(auto, unfolding(crate::specs::Progress::run_taken))]
-    fn begin_run(&mut self, places: Bytes) -> Result<(), Reason>
-        ensures { TakesAtOnce (run_taken (progress_of self.old) places) (progress_of self.new) result }
+    fn begin_run(&mut self, alloc: Global, places: Bytes) -> Result<(), LineError>
+        ensures { Takes (run_taken (progress_of self.old) places) (progress_of self.new) result }
     {
         if self.left.runs == 0 {
-            return Err(Reason::Limit);
+            return Err(LineError::Refused(Reason::Limit));
         }
+        self.routes = no_routes(alloc, ranks_of(&self.shape))?;
         self.left.runs -= 1;
         self.places = places;
         self.stage = Stage::Ranks;
@@ -238,17 +239,16 @@ impl Reader {
     fn take_step(&mut self, alloc: Global, given: RankStep) -> Result<(), LineError>
         ensures { Takes (step_taken (progress_of self.old) given) (progress_of self.new) result }
     {
-        let ranks = ranks_of(&self.shape);
         let Some(cost) = cost_of(&given) else {
             return Err(LineError::Refused(Reason::FileEnd));
         };
-        if passes_routes(&self.routes, ranks, &given) {
+        if passes_routes(&self.routes, &given) {
             return Err(LineError::Refused(Reason::Routes));
         }
         let Some(left) = spent(self.left, cost) else {
             return Err(LineError::Refused(Reason::Limit));
         };
-        note_step(alloc, &mut self.routes, ranks, &given)?;
+        note_step(alloc, &mut self.routes, &given)?;
         self.steps.push(given)?;
         self.left = left;
         Ok(())
@@ -299,7 +299,7 @@ impl Reader {
         ensures { Takes (line_taken (progress_of self.old) line) (progress_of self.new) result }
     {
         match line {
-            Line::Run { places } => Ok(self.begin_run(places)?),
+            Line::Run { places } => self.begin_run(alloc, places),
             Line::Rank { given } => self.take_step(alloc, given),
             Line::Turn { turn } => self.take_turn(turn),
             Line::Stop { stop } => self.end_run(alloc, stop),

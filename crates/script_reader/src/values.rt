@@ -7,7 +7,7 @@ ghost use Rattle.script_reader.specs.Values.{Size, size_of, ranks_of, devices_of
 
 use crate::form::{BodyForm, HaltForm, PlaceForm, stop_text};
 use crate::line::{Line, RankStep};
-use crate::number::{bytes_in_hex, medium_in, number_in, small_in};
+use crate::number::{GREATEST, bytes_in_hex, medium_in, number_in, small_in};
 use crate::reason::{LineError, Reason};
 use crate::script::{Item, TurnLine};
 use crate::step_form::StepForm;
@@ -19,9 +19,6 @@ use std::alloc::Global;
 
 /// The greatest place, length and size of a file.
 const LONGEST_FILE: u32 = 1_048_576;
-
-/// The greatest number of moves, and the greatest time.
-const GREATEST: u64 = 9_999_999_999;
 
 pub(crate) fn ranks_of(shape: &Shape) -> u8
     ensures { result ≡ ranks_of (size_of shape.now) }
