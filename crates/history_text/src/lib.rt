@@ -10,6 +10,3 @@ mod printing;
 
 pub use history_reader::{HistoryError, one_spelling, parse};
 pub use printing::{print, print_event};
-
-#[cfg(test)]
-mod tests;

@@ -5,13 +5,14 @@ ghost use Rattle.script_gen.specs.Draws.{next};
 
 /// A linear congruential source: each draw moves it on.
 #[derive(Drop)]
-pub(crate) struct Draws {
-    pub(crate) state: u64,
+pub struct Draws {
+    pub state: u64,
     ghost small: { state < 2147483648 },
 }
 
 impl Draws {
-    pub(crate) fn new(seed: u32) -> Draws
+    /// The source that a seed starts.
+    pub fn new(seed: u32) -> Draws
         ensures { result.state ≡ seed % 2147483648 }
     {
         Draws {
@@ -20,7 +21,7 @@ impl Draws {
     }
 
     /// The next number below a bound.
-    pub(crate) fn below(&mut self, bound: u32) -> u32
+    pub fn below(&mut self, bound: u32) -> u32
         requires { 0 < bound }
         ensures state { self.new.state ≡ next self.old.state }
         ensures number { result ≡ (self.new.state / 65536) % bound }

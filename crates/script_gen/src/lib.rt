@@ -4,7 +4,5 @@
 mod draws;
 mod script;
 
+pub use draws::Draws;
 pub use script::generate;
-
-#[cfg(test)]
-mod tests;
