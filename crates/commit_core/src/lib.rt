@@ -12,8 +12,6 @@ mod piece;
 mod standing;
 mod stripe;
 mod taken;
-#[cfg(test)]
-mod tests;
 mod working;
 
 pub use claim::Claim;

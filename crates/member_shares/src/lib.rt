@@ -11,13 +11,3 @@ pub fn one_list_of_shares()
     ensures some { (scheme : Scheme) (c : ℕ) (streams : List (List ℕ)) → IsSet scheme (length streams) → AreBytes streams → (shares : List (List ℕ)) × AreParityShares scheme c streams shares }
     ensures one { (scheme : Scheme) (c : ℕ) (streams xs ys : List (List ℕ)) → IsSet scheme (length streams) → AreParityShares scheme c streams xs → AreParityShares scheme c streams ys → xs ≡ ys }
 {}
-
-#[cfg(test)]
-mod tests {
-    use super::*;
-
-    #[test]
-    fn the_law_is_there() {
-        one_list_of_shares();
-    }
-}

@@ -7,8 +7,6 @@ mod longest;
 mod member;
 mod recovery;
 mod stripes;
-#[cfg(test)]
-mod tests;
 
 pub use known::complete;
 pub use member::member_of;
