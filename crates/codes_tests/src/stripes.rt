@@ -3,7 +3,7 @@
 ghost use Rattle.std.specs.Prelude.{◌≡◌, ◌<◌, length, vec_len, IfOk};
 ghost use Rattle.reed_solomon.specs.Stripe.{AreOfOneLength};
 
-use reed_solomon::{RsError, encode_stripe, rebuild_segment, rebuild_stripe};
+use reed_solomon::{RsError, encode_stripe, factors, rebuild_segment, rebuild_stripe};
 use scr_base::Bytes;
 use std::alloc::Global;
 use std::test::Fail;
@@ -55,6 +55,7 @@ fn worked_rows(rt: HostRuntime) -> Result<(), Fail> {
     let stripe = encode_stripe(alloc, 3, 1, 2, &known_of(alloc, &column, &[2])?)?;
     assert_eq!(rt; stripe.len(), 3);
     assert_eq!(rt; stripe[2].list(), [0x1d; 3].as_slice());
+    assert_eq!(rt; factors(alloc, 3, 1, &[0, 1], 2)?.list(), [3, 2].as_slice());
     let pair = rebuild_stripe(alloc, 2, 1, &known_of(alloc, &[0x5a, 0x5a], &[0])?)?;
     assert_eq!(rt; pair.len(), 2);
     assert_eq!(rt; pair[0].list(), [0x5a; 3].as_slice());

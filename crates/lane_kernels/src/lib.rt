@@ -7,8 +7,11 @@ ghost use Rattle.gf256.specs.Field.{add as sum_of, mul as product_of};
 ghost use Rattle.lane_kernels.specs.Lanes.{AddsEach};
 ghost use Rattle.lane_kernels.specs.Blocks.{AddsBlock, IsTable};
 
+mod weigh;
+
 use gf256::{add, mul};
 use std::simd::prelude::*;
+pub use weigh::weigh_into;
 
 /// How many bytes are added at once.
 const WIDE: usize = 64;

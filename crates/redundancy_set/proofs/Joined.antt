@@ -1,20 +1,27 @@
 -- Segments that are put one behind the other.
-use Rattle.std.proofs.Common.{◌≡◌, ℕ, ◌+◌, ◌-◌, ◌*◌, ◌<◌, ◌≤◌, List, ◌++◌, length, take, drop, min, slice_index, length-take, length-drop, refl, sym, ap, ◌∙◌, arith}
+use Rattle.std.proofs.Common.{◌≡◌, ℕ, ◌+◌, ◌-◌, ◌*◌, ◌<◌, ◌≤◌, List, ◌++◌, length, take, min, slice_index, length-take, refl, sym, ap, ◌∙◌, arith, inl, inr}
 use Rattle.std.proofs.Math.Nat.{add-mul, mul-le-mul_right}
-use Rattle.std.proofs.Math.Seq.{take-add}
-use Rattle.std.proofs.lemmas.List.{ext_get_or, get_or-take, get_or-drop, take_all}
+use Rattle.std.proofs.lemmas.Bool.{cases_lt}
+use Rattle.std.proofs.lemmas.List.{ext_get_or, get_or-take, take_all}
 
 -- a segment more of a list
-pub take_more : (xs segment : List ℕ) (a c room : ℕ) → length segment ≡ c → room ≡ min c (length xs - a)
-    → ((b : ℕ) → b < c → slice_index segment b ≡ slice_index xs (a + b)) → take a xs ++ take room segment ≡ take (a + c) xs
-take_more xs segment a c room size is bytes =
-    let front : take room segment ≡ take c (drop a xs) =
-    ext_get_or 0 (take room segment) (take c (drop a xs)) (omega (arith, length-take room segment, length-take c (drop a xs), length-drop a xs))
-    (λ b h.
-    let low : b < room = omega (arith, length-take room segment) in
-    let small : b < c = omega arith in
-    get_or-take room segment b 0 low ∙ bytes b small ∙ sym (get_or-drop a xs b 0) ∙ sym (get_or-take c (drop a xs) b 0 small)) in
-    ap (λ ys. take a xs ++ ys) front ∙ sym (take-add a c xs)
+pub take_grown : (xs old new : List ℕ) (a c room : ℕ) → old ≡ take a xs → length new ≡ length old + room
+    → ((b : ℕ) → b < length old → slice_index new b ≡ slice_index old b) → room ≡ min c (length xs - a)
+    → ((b : ℕ) → b < room → slice_index new (length old + b) ≡ slice_index xs (a + b)) → new ≡ take (a + c) xs
+take_grown xs old new a c room before size front is bytes =
+    let long : length old ≡ min a (length xs) = ap (length {A = ℕ}) before ∙ length-take a xs in
+    ext_get_or 0 new (take (a + c) xs) (omega (arith, size, long, length-take (a + c) xs))
+    (λ k h.
+    let whole = get_or-take (a + c) xs k 0 in
+    elim (cases_lt k (length old)) [
+      | inl low ↦
+          front k low ∙ ap (λ ys. slice_index ys k) before ∙ get_or-take a xs k 0 (omega arith) ∙ sym (whole (omega arith))
+      | inr high ↦
+          let at : length old + (k - length old) ≡ k = omega arith in
+          let from : a + (k - length old) ≡ k = omega (arith, long, size, is) in
+          let own = bytes (k - length old) (omega (arith, size)) in
+          sym (ap (slice_index new) at) ∙ own ∙ ap (slice_index xs) from ∙ sym (whole (omega (arith, long, size, is)))
+    ])
 
 -- the next place's segments end c bytes further on
 pub next_place : (q k c : ℕ) → k ≡ q + 1 → k * c ≡ q * c + c

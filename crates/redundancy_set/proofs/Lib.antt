@@ -4,3 +4,5 @@ pub mod LongestLemmas
 pub mod KnownLemmas
 pub mod Joined
 pub mod Segments
+pub mod XorFactors
+pub mod SumLemmas

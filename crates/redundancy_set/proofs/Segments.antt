@@ -21,18 +21,16 @@ use Rattle.member_shares.specs.Shares.{parity_count, longest, segment_length, Is
 use Rattle.member_shares.proofs.Ranks.{rank, has_rank, stands_at}
 use Rattle.member_shares.proofs.Places.{data_holders, parity_all, parity_place_is, parity_place_in, data_place_in, data_place_out}
 use Rattle.member_shares.proofs.Columns.{length-column, index-column, cell_parity, cell_data, one_list}
-use Rattle.redundancy_set.specs.Known.{IsKnown, IsCompleted, is_lost, held_cell, held_byte, stream_byte}
+use Rattle.redundancy_set.specs.Known.{IsKnown, is_lost, held_cell, held_byte, stream_byte}
+use Rattle.redundancy_set.specs.Sums.{AppendsCode, has_data, is_there}
 use Rattle.redundancy_set.specs.Recovered.{lost_places}
-use Rattle.redundancy_set.proofs.KnownLemmas.{known_agrees, rank_both, count_known}
-use Rattle.redundancy_set.proofs.Joined.{take_more, next_place, rows_fit}
+use Rattle.redundancy_set.proofs.KnownLemmas.{rank_both, count_known}
+use Rattle.redundancy_set.proofs.Joined.{take_grown, next_place, rows_fit}
 use Rattle.redundancy_set.proofs.LongestLemmas.{longest_covers}
+use Rattle.redundancy_set.proofs.SumLemmas.{free_of}
 
 clash : (b : Bool) → b ≡ true → b ≡ false → ⊥
 clash b e f = cc
-
-not_true : (b : Bool) → not b ≡ true → b ≡ false
-not_true true e = cc
-not_true false e = refl
 
 -- a member has at most p parity segments
 parity_most : (n p m s : ℕ) → m < n → p ≤ n → s ≤ n → parity_place n p m s ≤ p
@@ -50,32 +48,31 @@ shares_of scheme n p c streams shares en ep right =
     (subst (λ t. AreSharesOf scheme (length streams) t c streams shares) (sym ep) (record { sizes = right.sizes; columns = right.columns }))
 
 -- ---- a parity segment, from the data
-parity_segment : (scheme : Scheme) (n p c : ℕ) (streams shares : List (List ℕ)) (s i : ℕ) (known : List (Option (List ℕ))) (segment : List ℕ)
-    → AreSharesOf scheme n p c streams shares → IsKnown n c (holds_parity n p s) (stream_byte n p c s streams) known
-    → IsCompleted scheme known i c segment → s < n → i < n → holds_parity n p s i ≡ true
-    → (b : ℕ) → b < c → slice_index segment b ≡ slice_index (slice_index_or shares i []) (parity_place n p i s * c + b)
-parity_segment scheme n p c streams shares s i known segment right k whole h l held b low =
-    whole.value b low (column n p c s b streams shares) (length-column n p c s b streams shares ∙ sym k.count) (right.columns s b h low)
-    (known_agrees n c b (holds_parity n p s) (stream_byte n p c s streams) known (column n p c s b streams shares) k low
+parity_segment : (scheme : Scheme) (n p c : ℕ) (streams shares : List (List ℕ)) (s i : ℕ) (old new : List ℕ)
+    → AreSharesOf scheme n p c streams shares → AppendsCode scheme n i c (has_data n p s) (stream_byte n p c s streams) old new
+    → s < n → i < n → holds_parity n p s i ≡ true
+    → (b : ℕ) → b < c → slice_index new (length old + b) ≡ slice_index (slice_index_or shares i []) (parity_place n p i s * c + b)
+parity_segment scheme n p c streams shares s i old new right whole h l held b low =
+    whole.value b low (column n p c s b streams shares) (length-column n p c s b streams shares) (right.columns s b h low)
     (λ m small free.
-    index-column n p c s b m streams shares small ∙ cell_data n p c m s b (slice_index_or streams m []) (slice_index_or shares m []) free))
+    index-column n p c s b m streams shares small
+    ∙ cell_data n p c m s b (slice_index_or streams m []) (slice_index_or shares m []) (free_of (holds_parity n p s m) free))
     ∙ index-column n p c s b i streams shares l
     ∙ cell_parity n p c i s b (slice_index_or streams i []) (slice_index_or shares i []) held
 
 -- a share's first segments, and one more
-pub parity_step : (scheme : Scheme) (n p c : ℕ) (streams shares : List (List ℕ)) (s i : ℕ) (known : List (Option (List ℕ))) (segment old new : List ℕ)
-    → AreSharesOf scheme n p c streams shares → IsKnown n c (holds_parity n p s) (stream_byte n p c s streams) known
-    → IsCompleted scheme known i c segment → s < n → i < n → p ≤ n → holds_parity n p s i ≡ true
-    → old ≡ take (parity_place n p i s * c) (slice_index_or shares i []) → new ≡ old ++ segment
+pub parity_step : (scheme : Scheme) (n p c : ℕ) (streams shares : List (List ℕ)) (s i : ℕ) (old new : List ℕ)
+    → AreSharesOf scheme n p c streams shares → AppendsCode scheme n i c (has_data n p s) (stream_byte n p c s streams) old new
+    → s < n → i < n → p ≤ n → holds_parity n p s i ≡ true
+    → old ≡ take (parity_place n p i s * c) (slice_index_or shares i [])
     → new ≡ take (parity_place n p i (s + 1) * c) (slice_index_or shares i [])
-parity_step scheme n p c streams shares s i known segment old new right k whole h l few held before is =
+parity_step scheme n p c streams shares s i old new right whole h l few held before =
     let q : ℕ = parity_place n p i s in
     let share : List ℕ = slice_index_or shares i [] in
     let more : parity_place n p i (s + 1) ≡ q + 1 = rw add-one (parity_place_in n p i s held) in
     let most : parity_place n p i (s + 1) ≤ p = parity_most n p i (s + 1) l few (omega arith) in
     let room : c ≡ min c (length share - q * c) = omega (arith, right.sizes i l, rows_fit q p c (omega arith)) in
-    is ∙ ap₂ (λ xs ys. xs ++ ys) before (sym (take_all c segment (omega (arith, whole.size))))
-    ∙ take_more share segment (q * c) c c whole.size room (parity_segment scheme n p c streams shares s i known segment right k whole h l held)
+    take_grown share old new (q * c) c c before whole.size whole.front room (parity_segment scheme n p c streams shares s i old new right whole h l held)
     ∙ ap (λ t. take t share) (sym (next_place q (parity_place n p i (s + 1)) c more))
 
 -- the data of a stripe are enough
@@ -94,42 +91,42 @@ held_agrees : (n p c m s b : ℕ) (o : Option Held) (stream share : List ℕ) �
 held_agrees n p c m s b None stream share h e = cc
 held_agrees n p c m s b (Some held) stream share h e = ap₂ (cell n p c m s b) (sym h.0) (sym h.1)
 
-data_segment : (scheme : Scheme) (n p c : ℕ) (streams shares : List (List ℕ)) (members : List (Option Held)) (s i : ℕ) (known : List (Option (List ℕ))) (segment : List ℕ)
-    → AreHeld scheme n p c streams shares members → IsKnown n c (is_lost members) (held_byte n p c s members) known
-    → IsCompleted scheme known i c segment → s < n → i < n → holds_parity n p s i ≡ false
-    → (b : ℕ) → b < c → slice_index segment b ≡ slice_index (slice_index_or streams i []) (data_place n p i s * c + b)
-data_segment scheme n p c streams shares members s i known segment a k whole h l free b low =
-    whole.value b low (column n p c s b streams shares) (length-column n p c s b streams shares ∙ sym k.count) (a.right.columns s b h low)
-    (known_agrees n c b (is_lost members) (held_byte n p c s members) known (column n p c s b streams shares) k low
+data_segment : (scheme : Scheme) (n p c len : ℕ) (streams shares : List (List ℕ)) (members : List (Option Held)) (s i : ℕ) (old new : List ℕ)
+    → AreHeld scheme n p c streams shares members → AppendsCode scheme n i len (is_there members) (held_byte n p c s members) old new
+    → len ≤ c → s < n → i < n → holds_parity n p s i ≡ false
+    → (b : ℕ) → b < len → slice_index new (length old + b) ≡ slice_index (slice_index_or streams i []) (data_place n p i s * c + b)
+data_segment scheme n p c len streams shares members s i old new a whole short h l free b low =
+    whole.value b low (column n p c s b streams shares) (length-column n p c s b streams shares) (a.right.columns s b h (omega arith))
     (λ m small there.
     index-column n p c s b m streams shares small
-    ∙ held_agrees n p c m s b (slice_index_or members m None) (slice_index_or streams m []) (slice_index_or shares m []) (a.each m small) there))
+    ∙ held_agrees n p c m s b (slice_index_or members m None) (slice_index_or streams m []) (slice_index_or shares m []) (a.each m small)
+    (free_of (is_lost members m) there))
     ∙ index-column n p c s b i streams shares l
     ∙ cell_data n p c i s b (slice_index_or streams i []) (slice_index_or shares i []) free
 
 -- a stream's first segments, and one more as far as it goes
-pub data_step : (scheme : Scheme) (n p c : ℕ) (streams shares : List (List ℕ)) (members : List (Option Held)) (s i len taken : ℕ) (known : List (Option (List ℕ))) (segment old new : List ℕ)
-    → AreHeld scheme n p c streams shares members → IsKnown n c (is_lost members) (held_byte n p c s members) known
-    → IsCompleted scheme known i c segment → s < n → i < n → holds_parity n p s i ≡ false → length (slice_index_or streams i []) ≡ len
+pub data_step : (scheme : Scheme) (n p c : ℕ) (streams shares : List (List ℕ)) (members : List (Option Held)) (s i len taken : ℕ) (old new : List ℕ)
+    → AreHeld scheme n p c streams shares members → AppendsCode scheme n i taken (is_there members) (held_byte n p c s members) old new
+    → s < n → i < n → holds_parity n p s i ≡ false → length (slice_index_or streams i []) ≡ len
     → taken ≡ min c (len - length old) → length old ≡ min (data_place n p i s * c) len
-    → old ≡ take (data_place n p i s * c) (slice_index_or streams i []) → new ≡ old ++ take taken segment
+    → old ≡ take (data_place n p i s * c) (slice_index_or streams i [])
     → new ≡ take (data_place n p i (s + 1) * c) (slice_index_or streams i [])
-data_step scheme n p c streams shares members s i len taken known segment old new a k whole h l free size piece long before is =
+data_step scheme n p c streams shares members s i len taken old new a whole h l free size piece long before =
     let q : ℕ = data_place n p i s in
     let stream : List ℕ = slice_index_or streams i [] in
     let more : data_place n p i (s + 1) ≡ q + 1 = rw add-one (data_place_in n p i s free) in
     let room : taken ≡ min c (length stream - q * c) = omega arith in
-    is ∙ ap (λ xs. xs ++ take taken segment) before
-    ∙ take_more stream segment (q * c) c taken whole.size room (data_segment scheme n p c streams shares members s i known segment a k whole h l free)
+    take_grown stream old new (q * c) c taken before whole.size whole.front room
+    (data_segment scheme n p c taken streams shares members s i old new a whole (omega arith) h l free)
     ∙ ap (λ t. take t stream) (sym (next_place q (data_place n p i (s + 1)) c more))
 
 -- how long it is then
-pub data_length : (n p c s i len : ℕ) (segment old new : List ℕ) (taken : ℕ) → holds_parity n p s i ≡ false → length segment ≡ c → taken ≡ min c (len - length old)
-    → length old ≡ min (data_place n p i s * c) len → new ≡ old ++ take taken segment → length new ≡ min (data_place n p i (s + 1) * c) len
-data_length n p c s i len segment old new taken free size piece long is =
+pub data_length : (n p c s i len taken : ℕ) (old new : List ℕ) → holds_parity n p s i ≡ false → taken ≡ min c (len - length old)
+    → length old ≡ min (data_place n p i s * c) len → length new ≡ length old + taken → length new ≡ min (data_place n p i (s + 1) * c) len
+data_length n p c s i len taken old new free piece long is =
     let q : ℕ = data_place n p i s in
     let more : data_place n p i (s + 1) ≡ q + 1 = rw add-one (data_place_in n p i s free) in
-    omega (arith, ap (length {A = ℕ}) is, length-append old (take taken segment), length-take taken segment, next_place q (data_place n p i (s + 1)) c more)
+    omega (arith, next_place q (data_place n p i (s + 1)) c more)
 
 -- where the stream is whole, or has parity in the stripe, nothing is added
 pub data_same : (n p c s i len : ℕ) (old : List ℕ) → (holds_parity n p s i ≡ true) ⊎ (len ≤ length old) → length old ≡ min (data_place n p i s * c) len
@@ -152,12 +149,6 @@ data_same n p c s i len old why long =
                 before ∙ take_all (q * c) stream (omega arith) ∙ sym (take_all (data_place n p i (s + 1) * c) stream (omega (arith, longer))),
           )
     ]
-
-pub held_enough : (n p c : ℕ) (members : List (Option Held)) (byte : ℕ → ℕ → ℕ) (known : List (Option (List ℕ))) → length members ≡ n → length (lost_places members) ≤ p
-    → IsKnown n c (is_lost members) byte known → length known - p ≤ length (known_places known)
-held_enough n p c members byte known count few k =
-    let lost : length (lost_places members) ≡ rank (is_lost members) n = ap (rank (is_lost members)) count in
-    omega (arith, k.count, count_known n c (is_lost members) byte known k)
 
 -- ---- members that hold what they should share one list
 parity_share : (scheme : Scheme) (streams : List (List ℕ)) (i : ℕ) (share : List ℕ) → scheme ≢ Single → scheme ≢ Partner → IsShare scheme streams i share
@@ -206,7 +197,7 @@ one_there members n p count few more =
     let first = has_rank (λ i. not (is_lost members i)) n 0 (omega (arith, rank_both (is_lost members) n)) in (
       slice_index (filter (λ i. not (is_lost members i)) (numbers_below n)) 0,
       first.below,
-      not_true (is_lost members (slice_index (filter (λ i. not (is_lost members i)) (numbers_below n)) 0)) first.passes,
+      free_of (is_lost members (slice_index (filter (λ i. not (is_lost members i)) (numbers_below n)) 0)) first.passes,
     )
 
 -- ---- what is borne

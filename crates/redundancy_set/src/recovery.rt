@@ -6,9 +6,12 @@ ghost use Rattle.redundancy_set.specs.Known.{is_lost};
 ghost use Rattle.redundancy_set.specs.Recovered.{lost_places, IsRefused, AreEnough, IsGivenBack};
 
 use crate::cutting::cut;
-use crate::known::{complete, held_of};
+use crate::factors::factors_of;
 use crate::longest::longest_of;
+use crate::parts::held_parts;
+use crate::places::held_places;
 use crate::stripes::Stripes;
+use crate::sums::append_sum;
 use partner_copy::{Held, stream_of};
 use scr_base::{Bytes, Scheme};
 use std::alloc::{AllocError, Global};
@@ -58,6 +61,50 @@ pub fn recover(
         });
     }
     Ok(streams_of(alloc, scheme, members, lengths)?)
+}
+
+/// The stream of member `i` alone, as `recover` gives it. No other stream is copied for it.
+pub fn recover_one(
+    alloc: Global,
+    scheme: Scheme,
+    members: &Vec<Option<Held>>,
+    lengths: &Vec<u32>,
+    i: u8,
+) -> Result<Bytes, RecoverError>
+    requires set { IsSet scheme (vec_len members.now) }
+    requires lengths { vec_len lengths.now ≡ vec_len members.now }
+    requires within { i < vec_len members.now }
+    ensures length { IfOk result (λ stream. length stream ≡ slice_index lengths.now.items i) }
+    ensures original { IfOk result (λ answer. (streams : List (List ℕ)) → AreMembers scheme streams members.now.items → map length streams ≡ lengths.now.items → answer ≡ slice_index_or streams i []) }
+    ensures borne { OnOk result (bears_members scheme (vec_len members.now) (lost_places members.now.items) ≡ true) }
+    ensures refused { IfErr result (IsRefused scheme members.now.items) }
+{
+    let lost = lost_of(alloc, members)?;
+    if !bears(scheme, members.len() as u8, &lost) {
+        return Err(RecoverError::NotBorne {
+            lost: Bytes::of(lost),
+        });
+    }
+    Ok(own_stream(alloc, scheme, members, lengths, i)?)
+}
+
+/// Member `i`'s stream, where the loss is borne.
+fn own_stream(
+    alloc: Global,
+    scheme: Scheme,
+    members: &Vec<Option<Held>>,
+    lengths: &Vec<u32>,
+    i: u8,
+) -> Result<Bytes, AllocError>
+    requires enough { AreEnough scheme (length members.now.items) (parity_count scheme) members.now.items }
+    requires lengths { length lengths.now.items ≡ length members.now.items }
+    requires within { i < length members.now.items }
+    ensures length { IfOk result (λ stream. length stream ≡ slice_index lengths.now.items i) }
+    ensures original { IfOk result (λ answer. (streams : List (List ℕ)) → AreMembers scheme streams members.now.items → map length streams ≡ lengths.now.items → answer ≡ slice_index_or streams i []) }
+{
+    let stripes = Stripes::of(scheme, members.len() as u8, longest_of(lengths));
+    let len = lengths[i as usize] as usize;
+    stream_for(alloc, scheme, stripes, members, i, len)
 }
 
 /// The streams of all members, where the loss is borne.
@@ -170,13 +217,16 @@ fn rebuilt(
     requires covers { len ≤ (stripes.members - stripes.parity) * stripes.len }
     ensures { IfOk result (IsGivenBack scheme members.now.items stripes.len i len) }
 {
+    let held = held_places(alloc, stripes, members)?;
+    let places = held.as_slice();
+    let factors = factors_of(alloc, scheme, stripes.members, places, i)?;
+    let weights = factors.list();
     let mut stream = Vec::with_capacity(alloc, len)?;
     for stripe in 0..stripes.members {
         if stream.len() < len && !stripes.has_parity(stripe, i) {
-            let known = held_of(alloc, stripes, members, stripe)?;
-            let segment = complete(alloc, scheme, known, i, stripes.len)?;
+            let parts = held_parts(alloc, stripes, members, places, stripe)?;
             let taken = stripes.len.min(len - stream.len());
-            stream.extend_from_slice(&segment.list()[..taken])?;
+            append_sum(alloc, &mut stream, taken, parts.as_slice(), weights)?;
         }
     }
     Ok(Bytes::of(stream))

@@ -8,7 +8,7 @@ use Rattle.lane_kernels.specs.Columns.{column_at}
 use Rattle.poly_code.specs.Polynomial.{value_at, IsBytes, weighted_sum}
 use Rattle.poly_code.specs.Code.{IsWeights}
 use Rattle.poly_code.proofs.Lagrange.{AreApart, interpolated, IsBytes-interpolated, length-interpolated_all, value_at-interpolated_point, weighted_sum_same}
-use Rattle.reed_solomon.specs.Stripe.{known_places, is_known, segment_of, AreOfOneLength, IsStripe, IsCompleted, IsRebuilt, IsSegment, ArePlaces}
+use Rattle.reed_solomon.specs.Stripe.{known_places, is_known, segment_of, AreOfOneLength, IsStripe, IsCompleted, IsRebuilt, AreFactors, IsSegment, ArePlaces}
 use Rattle.scr_base.proofs.Chosen.{chosen_passes, chosen_below, chosen_ascends}
 
 -- one of the first n is the target, or none
@@ -176,6 +176,18 @@ rebuilt known m places target segment first size at s =
           let low : j < m = omega (arith, size) in
           ap (value_at coefs) (sym (place_at j low)) ∙ agree j low ∙ ap (λ p. slice_index (segment_of known p) b) (place_at j low));
     }
+
+-- weights for the value at the target are factors of each column
+pub column_factors : (degree n : ℕ) (places : List ℕ) (target : ℕ) (weights : List ℕ) → length places ≡ degree → target < n
+    → ((j : ℕ) → j < length places → slice_index places j < n) → IsWeights places target weights → AreFactors degree n places target weights
+column_factors degree n places target weights size h below w = record {
+  size = w.count;
+  value = λ bytes count right.
+      right.value target (omega (arith, count))
+      ∙ w.value right.coefs right.small (omega (arith, size, right.count))
+      ∙ weighted_sum_same (slice_index weights) (slice_index weights) (λ k. value_at right.coefs (slice_index places k)) (λ j. slice_index bytes (slice_index places j)) (length places)
+      (λ j l. refl) (λ j l. sym (right.value (slice_index places j) (omega (arith, below j l, count))));
+}
 
 both_long : (len : ℕ) (a b : Option (List ℕ)) → IfSome a (λ s. length s ≡ len) → IfSome b (λ s. length s ≡ len)
     → IfSome a (λ s. IfSome b (λ t. length s ≡ length t))

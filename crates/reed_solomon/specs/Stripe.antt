@@ -44,6 +44,12 @@ pub record IsRebuilt (degree : ℕ) (known : List (Option (List ℕ))) (target :
       → ((j : ℕ) → j < degree → value_at coefs (slice_index (known_places known) j) ≡ slice_index (segment_of known (slice_index (known_places known) j)) b)
       → slice_index segment b ≡ value_at coefs target
 
+-- in each column of n bytes the target's is the sum of those at the places, each times its factor
+pub record AreFactors (degree n : ℕ) (places : List ℕ) (target : ℕ) (factors : List ℕ) : Type 0 where
+  pub size : length factors ≡ length places
+  pub value : (bytes : List ℕ) → length bytes ≡ n → IsColumn degree bytes
+      → slice_index bytes target ≡ weighted_sum (slice_index factors) (λ j. slice_index bytes (slice_index places j)) (length places)
+
 -- the sum of the segments at these places, each times its weight for the target
 pub record IsWeighed (known : List (Option (List ℕ))) (places : List ℕ) (target : ℕ) (segment : List ℕ) : Type 0 where
   pub weights : List ℕ

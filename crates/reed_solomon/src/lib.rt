@@ -3,8 +3,8 @@
 
 ghost use Rattle.std.specs.Prelude.{◌≡◌, ◌≢◌, ◌↔◌, ℕ, ◌-◌, ◌<◌, ◌≤◌, None, length, take, slice_index, slice_index_or, vec_len, IsSome, IfOk};
 ghost use Rattle.std.specs.Bool.{OnTrue, OnFalse};
-ghost use Rattle.poly_code.specs.Polynomial.{IsBytes, weighted_sum};
-ghost use Rattle.reed_solomon.specs.Stripe.{known_places, segment_of, AreOfOneLength, IsShort, IsCompleted, IsRebuilt, ArePlaces, IsSegment};
+ghost use Rattle.poly_code.specs.Polynomial.{IsBytes, AreDistinct, weighted_sum};
+ghost use Rattle.reed_solomon.specs.Stripe.{known_places, segment_of, AreOfOneLength, IsShort, IsCompleted, IsRebuilt, AreFactors, ArePlaces, IsSegment};
 
 use lane_kernels::mul_add_into;
 use poly_code::{PolyError, weights};
@@ -99,6 +99,23 @@ pub fn rebuild_segment(
     let first = first_places(alloc, n - k, known)?;
     let segment = segment_for(alloc, known, first.as_slice(), target)?;
     Ok(segment)
+}
+
+/// The factors with which the segments at the places sum up to the one at the target, in each stripe of n segments with
+/// k of parity. The places are n - k that differ.
+pub fn factors(alloc: Global, n: u8, k: u8, places: &[u8], target: u8) -> Result<Bytes, AllocError>
+    requires count { length places.now ≡ n - k }
+    requires distinct { AreDistinct places.now (length places.now) }
+    requires below { (j : ℕ) → j < length places.now → slice_index places.now j < n }
+    requires within { target < n }
+    ensures { IfOk result (AreFactors (n - k) n places.now target) }
+{
+    match weights(alloc, places, target) {
+        Ok(factors) => Ok(factors),
+        Err(PolyError::Memory) => Err(AllocError),
+        Err(PolyError::TooFew) => unreachable!(),
+        Err(PolyError::Repeated { .. }) => unreachable!(),
+    }
 }
 
 /// The places of the first known segments, as many as are needed.

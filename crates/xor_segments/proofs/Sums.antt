@@ -7,7 +7,7 @@ use Rattle.gf256.proofs.Linear.{add_assoc, add_comm, add_self, zero_add, add_zer
 use Rattle.lane_kernels.specs.Columns.{column_at}
 use Rattle.xor_segments.specs.Column.{xor_of}
 
-xor_of-take_suc : (bs : List ℕ) (i : ℕ) → i < length bs → xor_of (take (suc i) bs) ≡ add (xor_of (take i bs)) (get_or bs i 0)
+pub xor_of-take_suc : (bs : List ℕ) (i : ℕ) → i < length bs → xor_of (take (suc i) bs) ≡ add (xor_of (take i bs)) (get_or bs i 0)
 unfolding xor_of
 xor_of-take_suc [] i h = absurd (omega arith)
 xor_of-take_suc (b ∷ bs) zero h = add_comm b 0

@@ -7,9 +7,10 @@ use Rattle.member_shares.specs.Shares.{IsSet, parity_count, segment_length, long
 use Rattle.member_shares.proofs.Places.{parity_place_out, parity_place_none}
 use Rattle.member_shares.proofs.Filled.{some_list}
 use Rattle.redundancy_set.specs.Known.{stream_byte}
-use Rattle.redundancy_set.proofs.Segments.{shares_of, parity_step, data_enough, segment_length_is, share_is}
+use Rattle.redundancy_set.specs.Sums.{AppendsCode, has_data}
+use Rattle.redundancy_set.proofs.Segments.{shares_of, parity_step, segment_length_is, share_is}
 use Rattle.redundancy_set.proofs.member.parity_share.Goals as goal
-use Rattle.redundancy_set.proofs.member.parity_share.Goals.{then-has_parity+in_ok-known+in_ok-segment+in_ok-extend_from_slice, else-has_parity}
+use Rattle.redundancy_set.proofs.member.parity_share.Goals.{then-has_parity+in_ok-append_parity, else-has_parity}
 
 pub loop-stripe-init : goal.loop-stripe-init
 loop-stripe-init c = λ shares right.
@@ -18,13 +19,6 @@ loop-stripe-init c = λ shares right.
     ∙ ap (λ t. take t (slice_index_or shares c.args.i [])) nothing
     ∙ ap (λ t. take (t * c.of-stripes.result.len) (slice_index_or shares c.args.i [])) (sym (parity_place_none c.of-stripes.result.members c.of-stripes.result.parity c.args.i))
 
-pub complete-requires-clause-enough : goal.complete-requires-clause-enough
-complete-requires-clause-enough c =
-    let stripes = c.of-stripes.result in
-    data_enough c.args.scheme stripes.members stripes.parity stripes.len c.loop-stripe.stripe
-    (stream_byte stripes.members stripes.parity stripes.len c.loop-stripe.stripe c.args.streams.now.items) c.in_ok-known.known.items
-    c.of-stripes.ensures.parity (omega (arith, stripes.data)) c.loop-stripe-test.true c.in_ok-known.ensures
-
 pub loop-stripe-preserved : goal.loop-stripe-preserved
 loop-stripe-preserved c = λ shares right.
     let stripes = c.of-stripes.result in
@@ -32,11 +26,12 @@ loop-stripe-preserved c = λ shares right.
     let count : stripes.members ≡ length streams = omega (arith, c.of-stripes.ensures.members) in
     let of = shares_of c.args.scheme stripes.members stripes.parity stripes.len streams shares count c.of-stripes.ensures.parity right in
     elim c.if-has_parity.branch [
-      | then-has_parity+in_ok-known+in_ok-segment+in_ok-extend_from_slice w ↦
-          parity_step c.args.scheme stripes.members stripes.parity stripes.len streams shares c.loop-stripe.stripe c.args.i w.in_ok-known.known.items w.in_ok-segment.segment
-          c.loop-stripe.share.items c.if-has_parity.share.items of w.in_ok-known.ensures w.in_ok-segment.ensures c.loop-stripe-test.true (omega arith) (omega (arith, stripes.data))
+      | then-has_parity+in_ok-append_parity w ↦
+          parity_step c.args.scheme stripes.members stripes.parity stripes.len streams shares c.loop-stripe.stripe c.args.i
+          c.loop-stripe.share.items c.if-has_parity.share.items of
+          (subst (λ v. AppendsCode c.args.scheme stripes.members c.args.i stripes.len (has_data stripes.members stripes.parity c.loop-stripe.stripe)
+          (stream_byte stripes.members stripes.parity stripes.len c.loop-stripe.stripe streams) c.loop-stripe.share.items v.items) (sym w.share-is) w.in_ok-append_parity.ensures) c.loop-stripe-test.true (omega arith) (omega (arith, stripes.data))
           (sym w.if-has_parity.ensures) (c.loop-stripe.invariant shares right)
-          (grind (arith, common_steps))
       | else-has_parity w ↦
           let same : parity_place stripes.members stripes.parity c.args.i (c.loop-stripe.stripe + 1) ≡ parity_place stripes.members stripes.parity c.args.i c.loop-stripe.stripe =
           rw add-one (parity_place_out stripes.members stripes.parity c.args.i c.loop-stripe.stripe (sym w.if-has_parity.ensures)) in

@@ -1,12 +1,26 @@
-use Rattle.std.proofs.Common.{◌≡◌, ℕ, ◌-◌, ◌*◌, ◌<◌, ◌≤◌, true, false, [], ◌++◌, length, take, min, slice_index_or, sym, ap, ◌∙◌, arith, inl, inr, ◌⊎◌}
+use Rattle.std.proofs.Common.{◌≡◌, ℕ, ◌-◌, ◌*◌, ◌<◌, ◌≤◌, true, false, [], length, map, take, min, slice_index, slice_index_or, sym, ap, subst, ◌∙◌, arith, inl, inr, ◌⊎◌}
 use Rattle.std.proofs.lemmas.Grind.{common_steps}
-use Rattle.std.proofs.lemmas.List.{take_all}
+use Rattle.std.proofs.lemmas.List.{take_all, length-map}
 use Rattle.member_shares.specs.Layout.{holds_parity, data_place}
+use Rattle.member_shares.specs.Shares.{parity_count}
 use Rattle.member_shares.proofs.Places.{data_place_none, data_all}
-use Rattle.redundancy_set.specs.Known.{held_byte}
-use Rattle.redundancy_set.proofs.Segments.{data_step, data_length, data_same, held_enough, are_held, one_there, coded, some_parity}
+use Rattle.redundancy_set.specs.Known.{held_byte, is_lost}
+use Rattle.redundancy_set.specs.Sums.{ArePlaces, AreFactors, AreParts, AppendsSum, AppendsCode, is_there}
+use Rattle.redundancy_set.proofs.SumLemmas.{held_here, there_here, sum_completes, free_of}
+use Rattle.redundancy_set.proofs.Segments.{data_step, data_length, data_same, are_held, one_there, coded, some_parity}
 use Rattle.redundancy_set.proofs.recovery.rebuilt.Goals as goal
-use Rattle.redundancy_set.proofs.recovery.rebuilt.Goals.{then-len+then-not-has_parity+in_ok-known+in_ok-segment+in_ok-extend_from_slice, else-len, else-len-via-then-len+else-not-has_parity, else-len-via-else-len}
+use Rattle.redundancy_set.proofs.recovery.rebuilt.Goals.{then-len+then-not-has_parity+in_ok-parts+in_ok-append_sum, else-len, else-len-via-then-len+else-not-has_parity, else-len-via-else-len}
+
+pub factors_of-requires-clause-coded : goal.factors_of-requires-clause-coded
+factors_of-requires-clause-coded c =
+    let some = some_parity c.args.members.now.items c.args.stripes.members c.args.stripes.parity c.args.i c.requires.enough.count c.requires.within c.requires.lost c.requires.few in
+    omega (arith, some, c.requires.enough.parity)
+
+pub factors_of-requires-clause-places : goal.factors_of-requires-clause-places
+factors_of-requires-clause-places c =
+    subst (λ t. ArePlaces c.args.stripes.members (c.args.stripes.members - t) c.args.i c.as_slice-places.result.now) c.requires.enough.parity
+    (held_here c.args.members.now.items c.args.stripes.members c.args.stripes.parity c.args.i c.in_ok-held.held.items c.as_slice-places.result.now c.requires.enough.count c.requires.few c.requires.lost
+    c.in_ok-held.ensures c.as_slice-places.ensures.value)
 
 pub loop-stripe-init : goal.loop-stripe-init
 loop-stripe-init c =
@@ -18,13 +32,19 @@ loop-stripe-init c =
       same = λ streams shares held len. c.in_ok-stream.ensures.items ∙ ap (λ t. take t (slice_index_or streams c.args.i [])) (sym place);
     }
 
-pub complete-requires-clause-enough : goal.complete-requires-clause-enough
-complete-requires-clause-enough c =
-    let stripes = c.args.stripes in
-    let own = held_enough stripes.members stripes.parity stripes.len c.args.members.now.items
-    (held_byte stripes.members stripes.parity stripes.len c.loop-stripe.stripe c.args.members.now.items) c.in_ok-known.known.items
-    c.requires.enough.count c.requires.few c.in_ok-known.ensures in
-    omega (arith, own, c.requires.enough.parity)
+pub held_parts-requires-clause-places : goal.held_parts-requires-clause-places
+held_parts-requires-clause-places c =
+    (held_here c.args.members.now.items c.args.stripes.members c.args.stripes.parity c.args.i c.in_ok-held.held.items c.as_slice-places.result.now c.requires.enough.count c.requires.few c.requires.lost
+    c.in_ok-held.ensures c.as_slice-places.ensures.value).below
+
+pub held_parts-requires-clause-there : goal.held_parts-requires-clause-there
+held_parts-requires-clause-there c = λ j h.
+    free_of (is_lost c.args.members.now.items (slice_index c.as_slice-places.result.now j))
+    (there_here c.args.members.now.items c.args.stripes.members c.args.stripes.parity c.in_ok-held.held.items c.as_slice-places.result.now c.in_ok-held.ensures c.as_slice-places.ensures.value j h)
+
+pub append_sum-requires : goal.append_sum-requires
+append_sum-requires c =
+    ap length c.list-weights.ensures ∙ c.in_ok-factors.ensures.size ∙ sym c.in_ok-parts.ensures.size ∙ length-map c.in_ok-parts.parts.items (λ part. part.now) ∙ sym (ap length c.as_slice.ensures.value)
 
 pub loop-stripe-preserved : goal.loop-stripe-preserved
 loop-stripe-preserved c =
@@ -32,19 +52,31 @@ loop-stripe-preserved c =
     let n = stripes.members in
     let p = stripes.parity in
     let s = c.loop-stripe.stripe in
+    let members = c.args.members.now.items in
     let old = c.loop-stripe.stream.items in
+    let new = c.if-len.stream.items in
+    let places = c.as_slice-places.result.now in
+    let weights = c.list-weights.result.now in
+    let byte = held_byte n p stripes.len s members in
     elim c.if-len.branch [
-      | then-len+then-not-has_parity+in_ok-known+in_ok-segment+in_ok-extend_from_slice w ↦
+      | then-len+then-not-has_parity+in_ok-parts+in_ok-append_sum w ↦
           let free : holds_parity n p s c.args.i ≡ false = sym w.if-not-has_parity.ensures in
-          let segment = w.in_ok-segment.segment in
-          let more : c.if-len.stream.items ≡ old ++ take w.min-taken.result segment = grind (arith, common_steps) in
           let taken : w.min-taken.result ≡ min stripes.len (c.args.len - length old) = omega arith in
+          let parts = map (λ part. part.now) w.as_slice.result.now in
+          let here = held_here c.args.members.now.items c.args.stripes.members c.args.stripes.parity c.args.i c.in_ok-held.held.items c.as_slice-places.result.now c.requires.enough.count c.requires.few c.requires.lost
+          c.in_ok-held.ensures c.as_slice-places.ensures.value in
+          let f : AreFactors c.args.scheme n places c.args.i weights = subst (AreFactors c.args.scheme n places c.args.i) (sym c.list-weights.ensures) c.in_ok-factors.ensures in
+          let q : AreParts stripes.len byte places parts = subst (λ xs. AreParts stripes.len byte places (map (λ part. part.now) xs)) (sym w.as_slice.ensures.value) w.in_ok-parts.ensures in
+          let sum : AppendsSum w.min-taken.result weights parts old new =
+          subst (λ v. AppendsSum w.min-taken.result weights parts old v.items) (sym w.stream-is) w.in_ok-append_sum.ensures in
+          let code : AppendsCode c.args.scheme n c.args.i w.min-taken.result (is_there members) byte old new =
+          sum_completes c.args.scheme n c.args.i stripes.len w.min-taken.result (is_there members) byte places weights parts old new f q (omega arith) here.below
+          (there_here members n p c.in_ok-held.held.items places c.in_ok-held.ensures c.as_slice-places.ensures.value) sum in
           record {
-            size = data_length n p stripes.len s c.args.i c.args.len segment old c.if-len.stream.items w.min-taken.result free w.in_ok-segment.ensures.size taken c.loop-stripe.invariant.size more;
+            size = data_length n p stripes.len s c.args.i c.args.len w.min-taken.result old new free taken c.loop-stripe.invariant.size code.size;
             same = λ streams shares held len.
-                data_step c.args.scheme n p stripes.len streams shares c.args.members.now.items s c.args.i c.args.len w.min-taken.result w.in_ok-known.known.items segment old c.if-len.stream.items
-                held w.in_ok-known.ensures w.in_ok-segment.ensures c.loop-stripe-test.true c.requires.within free len taken c.loop-stripe.invariant.size
-                (c.loop-stripe.invariant.same streams shares held len) more;
+                data_step c.args.scheme n p stripes.len streams shares members s c.args.i c.args.len w.min-taken.result old new
+                held code c.loop-stripe-test.true c.requires.within free len taken c.loop-stripe.invariant.size (c.loop-stripe.invariant.same streams shares held len);
           }
       | else-len w ↦
           let why : (holds_parity n p s c.args.i ≡ true) ⊎ (c.args.len ≤ length old) =
@@ -52,7 +84,7 @@ loop-stripe-preserved c =
             | else-len-via-then-len+else-not-has_parity v ↦ inl (sym v.if-not-has_parity.ensures)
             | else-len-via-else-len v ↦ inr (omega arith)
           ] in
-          let kept : c.if-len.stream.items ≡ old = grind (arith, common_steps) in
+          let kept : new ≡ old = grind (arith, common_steps) in
           let still = data_same n p stripes.len s c.args.i c.args.len old why c.loop-stripe.invariant.size in
           record {
             size = ap (length {A = ℕ}) kept ∙ still.0;
