@@ -2,8 +2,7 @@
 #![tactic(auto)]
 
 ghost use Rattle.std.specs.Prelude.{◌≡◌, ◌+◌, ◌*◌, ◌<◌, ◌≤◌, ℕ, length, slice_index};
-ghost use Rattle.std.specs.Simd.Lanes.{Each1, chunk};
-ghost use Rattle.gf256.specs.Field.{add as sum_of, mul as product_of};
+ghost use Rattle.gf256.specs.Field.{mul as product_of};
 ghost use Rattle.lane_kernels.specs.Lanes.{AddsEach};
 ghost use Rattle.lane_kernels.specs.Blocks.{AddsBlock, IsTable};
 

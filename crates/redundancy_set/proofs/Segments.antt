@@ -1,5 +1,5 @@
 -- The segments that complete a stripe are those of the shares, or of the streams.
-use Rattle.std.proofs.Common.{◌≡◌, ◌≢◌, ℕ, ◌+◌, ◌-◌, ◌*◌, ◌%◌, ◌<◌, ◌≤◌, ◌&&◌, not, min, Bool, true, false, List, [], ◌++◌, length, length-take, length-append, take, add-one, map, slice_index, slice_index_or, Option, Some, None, refl, sym, ap, ap₂, subst, ◌∙◌, arith, inl, inr, ◌⊎◌}
+use Rattle.std.proofs.Common.{◌≡◌, ◌≢◌, ℕ, ◌+◌, ◌-◌, ◌*◌, ◌%◌, ◌<◌, ◌≤◌, ◌&&◌, not, min, Bool, true, false, List, [], length, take, add-one, map, slice_index, slice_index_or, Option, Some, None, refl, sym, ap, ap₂, subst, ◌∙◌, arith, inl, inr, ◌⊎◌}
 use Rattle.std.specs.Option.{IsNone, IfSome, is_none}
 use Rattle.std.specs.List.{filter}
 use Rattle.std.specs.Int.{div_ceil}

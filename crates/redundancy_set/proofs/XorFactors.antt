@@ -1,12 +1,12 @@
 -- With all factors 1 the other bytes of a column of the sum 0 give the target's.
-use Rattle.std.proofs.Common.{◌≡◌, ◌≢◌, ℕ, zero, suc, ◌+◌, ◌-◌, ◌<◌, ◌≤◌, List, [], length, get_or, set, take, replicate, slice_index, refl, sym, ap, ap₂, ◌∙◌, arith}
+use Rattle.std.proofs.Common.{◌≡◌, ◌≢◌, ℕ, zero, suc, ◌+◌, ◌-◌, ◌<◌, ◌≤◌, List, length, get_or, set, take, replicate, slice_index, refl, sym, ap, ap₂, ◌∙◌, arith}
 use Rattle.std.proofs.lemmas.List.{get_or-set_same, get_or-set_other, length-set, take_all, get_or-replicate, length-replicate}
 use Rattle.scr_base.specs.declared.shape.Scheme.TheVariants.{Xor}
 use Rattle.gf256.specs.Field.{add, mul}
 use Rattle.gf256.proofs.Linear.{add_self, add_zero}
 use Rattle.gf256.proofs.FieldLemmas.{one-mul}
 use Rattle.poly_code.specs.Polynomial.{weighted_sum}
-use Rattle.xor_segments.specs.Column.{xor_of, IsXorColumn}
+use Rattle.xor_segments.specs.Column.{xor_of}
 use Rattle.xor_segments.proofs.Sums.{xor_of-take_suc, xor_of-set}
 use Rattle.member_shares.proofs.Columns.{xor_fixed}
 use Rattle.redundancy_set.specs.Sums.{ArePlaces, AreFactors}

@@ -1,4 +1,4 @@
-ghost use Rattle.std.specs.Prelude.{◌≡◌, ◌-◌, ◌<◌, ◌≤◌, length, IfOk};
+ghost use Rattle.std.specs.Prelude.{◌-◌, ◌<◌, ◌≤◌, IfOk};
 ghost use Rattle.scr_base.specs.declared.shape.Scheme.TheVariants.{Rs};
 ghost use Rattle.member_shares.specs.Shares.{parity_count, IsSet};
 ghost use Rattle.redundancy_set.specs.Sums.{ArePlaces, AreFactors};

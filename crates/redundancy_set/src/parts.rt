@@ -1,5 +1,5 @@
-ghost use Rattle.std.specs.Prelude.{◌≡◌, ◌≢◌, ℕ, ◌+◌, ◌*◌, ◌<◌, None, false, All, length, map, slice_index, IfOk};
-ghost use Rattle.member_shares.specs.Layout.{cell, holds_parity, data_place};
+ghost use Rattle.std.specs.Prelude.{◌≡◌, ℕ, ◌+◌, ◌*◌, ◌<◌, None, false, length, map, slice_index, IfOk};
+ghost use Rattle.member_shares.specs.Layout.{cell, data_place};
 ghost use Rattle.redundancy_set.specs.Known.{is_lost, held_byte, stream_byte};
 ghost use Rattle.redundancy_set.specs.Sums.{IsPart, AreParts};
 

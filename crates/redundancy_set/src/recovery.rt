@@ -1,4 +1,4 @@
-ghost use Rattle.std.specs.Prelude.{◌≡◌, ℕ, ◌+◌, ◌-◌, ◌*◌, ◌%◌, ◌&&◌, ◌<◌, ◌≤◌, true, [], List, length, map, vec_len, slice_index, slice_index_or, IfOk, IfErr, OnOk, IsTrue};
+ghost use Rattle.std.specs.Prelude.{◌≡◌, ℕ, ◌+◌, ◌-◌, ◌*◌, ◌%◌, ◌&&◌, ◌<◌, ◌≤◌, true, [], List, length, map, vec_len, slice_index, slice_index_or, IfOk, IfErr, OnOk};
 ghost use Rattle.scr_base.specs.declared.shape.Scheme.TheVariants.{Partner};
 ghost use Rattle.scr_base.specs.Sets.{is_among, bears_members};
 ghost use Rattle.member_shares.specs.Shares.{parity_count, IsSet, AreMembers};

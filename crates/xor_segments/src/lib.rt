@@ -1,7 +1,7 @@
 //! XOR stripes: one segment is the sum of the others.
 #![tactic(auto)]
 
-ghost use Rattle.std.specs.Prelude.{◌≡◌, ◌≢◌, ℕ, ◌<◌, [], ◌∷◌, length, slice_index, slice_index_or, slice_set, vec_len, IfOk};
+ghost use Rattle.std.specs.Prelude.{◌≡◌, ◌≢◌, ℕ, ◌<◌, [], ◌∷◌, length, slice_index, slice_index_or, slice_set, vec_len};
 ghost use Rattle.lane_kernels.specs.Columns.{column_at};
 ghost use Rattle.xor_segments.specs.Column.{IsXorColumn};
 

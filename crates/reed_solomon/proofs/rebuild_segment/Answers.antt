@@ -1,4 +1,4 @@
-use Rattle.std.proofs.Common.{◌≡◌, ◌-◌, Err, arith, sym, subst, ap, ◌∙◌}
+use Rattle.std.proofs.Common.{◌≡◌, ◌-◌, Err, arith, subst, ap, ◌∙◌}
 use Rattle.std.proofs.lemmas.Result.{err_from_is_err_and}
 use Rattle.reed_solomon.specs.declared.RsError.TheVariants.{TooFew}
 use Rattle.reed_solomon.specs.Stripe.{IsSegment}

@@ -1,4 +1,4 @@
-use Rattle.std.proofs.Common.{◌≡◌, slice_index, length-take, refl, sym, ap, ◌∙◌, arith}
+use Rattle.std.proofs.Common.{slice_index, length-take, refl, sym, ap, ◌∙◌, arith}
 use Rattle.gf256.specs.Field.{mul}
 use Rattle.gf256.proofs.FieldLemmas.{one-mul, mul-zero}
 use Rattle.lane_kernels.proofs.Weighing.{as_far}

@@ -1,7 +1,6 @@
 use Rattle.std.proofs.Common.{◌≡◌, ◌-◌, length, replicate, sym, subst, arith}
 use Rattle.std.proofs.lemmas.Grind.{common_steps}
 use Rattle.std.proofs.lemmas.Result.{IfOk-weaker}
-use Rattle.scr_base.specs.declared.shape.Scheme.TheVariants.{Rs}
 use Rattle.reed_solomon.specs.Stripe.{AreFactors as ColumnFactors}
 use Rattle.member_shares.specs.Shares.{parity_count}
 use Rattle.redundancy_set.specs.Sums.{ArePlaces, AreFactors}

@@ -1,4 +1,4 @@
-use Rattle.std.proofs.Common.{◌≡◌, not, sym, ap, ◌∙◌, arith}
+use Rattle.std.proofs.Common.{not, sym, ap, ◌∙◌, arith}
 use Rattle.std.proofs.lemmas.Grind.{common_steps}
 use Rattle.scr_base.proofs.Chosen.{chosen_more_in, chosen_more_out, chosen_all}
 use Rattle.redundancy_set.specs.Sums.{has_data}

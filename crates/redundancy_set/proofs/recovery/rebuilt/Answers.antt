@@ -2,7 +2,6 @@ use Rattle.std.proofs.Common.{◌≡◌, ℕ, ◌-◌, ◌*◌, ◌<◌, ◌≤�
 use Rattle.std.proofs.lemmas.Grind.{common_steps}
 use Rattle.std.proofs.lemmas.List.{take_all, length-map}
 use Rattle.member_shares.specs.Layout.{holds_parity, data_place}
-use Rattle.member_shares.specs.Shares.{parity_count}
 use Rattle.member_shares.proofs.Places.{data_place_none, data_all}
 use Rattle.redundancy_set.specs.Known.{held_byte, is_lost}
 use Rattle.redundancy_set.specs.Sums.{ArePlaces, AreFactors, AreParts, AppendsSum, AppendsCode, is_there}
