@@ -1,0 +1,3 @@
+pub mod Names
+pub mod Picks
+pub mod Clears
