@@ -1,5 +1,5 @@
 -- The removal of the files under a folder, from what is left of them.
-use Rattle.std.proofs.Common.{◌≡◌, ◌≢◌, inl, inr, ◌<◌, ◌+◌, ◌^◌, ℕ, zero, suc, Bool, true, false, List, [], ◌∷◌, map, length, get_or, Option, None, Some, refl, sym, ◌∙◌, ap, subst, arith}
+use Rattle.std.proofs.Common.{◌≡◌, ◌≢◌, inl, inr, ◌<◌, ◌^◌, ℕ, zero, suc, Bool, true, false, List, [], ◌∷◌, map, length, get_or, Option, None, Some, refl, sym, ◌∙◌, ap, subst, arith}
 use Rattle.std.specs.Prelude.{All, Result, Ok, Err, OnOk, OnErr, IfOk, IsSome, Contains, is_none, ◌↔◌}
 use Rattle.scr_base.specs.declared.change.Change.{Change}
 use Rattle.scr_base.specs.declared.change.Change.TheVariants.{Remove}
@@ -9,7 +9,7 @@ use Rattle.node_device.specs.DeviceState.{DeviceState, IsUnchanged, ChangesOnly}
 use Rattle.node_device.specs.Answers.{NamesAnswers, RemoveAnswers}
 use Rattle.node_device.specs.declared.device.DevError.{DevError}
 use Rattle.node_device.specs.declared.device.DevError.TheVariants.{Failed, Full, NoFile, Range, Memory}
-use Rattle.prefix_store.specs.Names.{IsUnder, IsNameUnder}
+use Rattle.prefix_store.specs.Names.{IsNameUnder}
 use Rattle.prefix_store.specs.Calls.{IsClear, AreFilesUnder, IsClearStage, IsClearStageOf, ClearAnswers, Clears}
 use Rattle.prefix_store.specs.ClearSteps.{MayRemoveNext, RemovesNext}
 

@@ -1,5 +1,5 @@
 -- What the parts of a clearing do: the names that are picked, and the removal of the file that comes next.
-use Rattle.std.specs.Prelude.{◌≡◌, ◌≢◌, ◌<◌, ℕ, List, [], ◌∷◌, map, length, get_or, All, AllPairs, Contains, Option, None, Some, Result, IsOk}
+use Rattle.std.specs.Prelude.{◌≡◌, ◌≢◌, ◌<◌, ℕ, List, [], ◌∷◌, map, get_or, All, AllPairs, Contains, Option, None, Some, Result, IsOk}
 use Rattle.scr_base.specs.declared.change.Change.{Change}
 use Rattle.scr_base.specs.declared.change.Change.TheVariants.{Remove}
 use Rattle.node_device.specs.DeviceState.{DeviceState, IsDeviceName, IsUnchanged}

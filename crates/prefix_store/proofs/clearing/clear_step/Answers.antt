@@ -1,4 +1,4 @@
-use Rattle.std.proofs.Common.{◌≡◌, sym, ap, subst, Bool, rules}
+use Rattle.std.proofs.Common.{◌≡◌, sym, ap, subst, Bool}
 use Rattle.std.specs.Prelude.{Result, Ok, Err, IsErr, IsErrAnd}
 use Rattle.node_device.specs.declared.device.DevError.{DevError}
 use Rattle.prefix_store.specs.Calls.{Clears}
