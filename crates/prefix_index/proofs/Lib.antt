@@ -1,0 +1,11 @@
+pub mod Keys
+pub mod Sizes
+pub mod Trees
+pub mod Readings
+pub mod Ordered
+pub mod SoFar
+pub mod MarkReads
+pub mod Told
+pub mod Adds
+pub mod FlushedIds
+pub mod Marked
