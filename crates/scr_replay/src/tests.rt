@@ -6,9 +6,9 @@ use crate::output::put_all;
 use crate::replay::replay;
 use node_device::{Bay, MemDevice};
 use scr_base::{
-    Actor, MemSink, MemSource, Memory, Shape, Sink, SinkFailed, Source, Step, TickClock,
+    Actor, Config, MemSink, MemSource, Memory, Scheme, Shape, Sink, SinkFailed, Source, Step,
+    TickClock,
 };
-use script_reader::read_script;
 use site_core::{Site, Turn};
 use std::alloc::Global;
 use std::test::Fail;
@@ -602,8 +602,12 @@ fn stops_behind_a_refused_command(rt: HostRuntime) -> Result<(), Fail> {
 #[test]
 fn takes_steps_until_it_is_ended(rt: HostRuntime) -> Result<(), Fail> {
     let alloc = rt.alloc();
-    let Ok(script) = read_script(alloc, SAVE.as_bytes()) else {
-        return Ok(assert!(rt; false, "not read"));
+    let config = Config {
+        scheme: Scheme::Single,
+        size: 8,
+        cache: 1,
+        flush: 0,
+        interval: 1,
     };
     let Ok(bay) = bay(alloc, 10_000) else {
         return Ok(assert!(rt; false, "no bay"));
@@ -614,7 +618,7 @@ fn takes_steps_until_it_is_ended(rt: HostRuntime) -> Result<(), Fail> {
     let places = vec![in alloc; 0u8]?;
     let mut programs = Vec::new(alloc);
     programs.push(Vec::new(alloc))?;
-    let Ok(mut site) = Site::begin(alloc, bay, shape, script.config, places, programs) else {
+    let Ok(mut site) = Site::begin(alloc, bay, shape, config, places, programs) else {
         return Ok(assert!(rt; false, "not begun"));
     };
     assert!(rt; site.takes_steps(0));
