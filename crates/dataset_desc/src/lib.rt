@@ -6,6 +6,3 @@ mod fields;
 mod parts;
 
 pub use desc::{Desc, DescError};
-
-#[cfg(test)]
-mod tests;

@@ -1,5 +1,5 @@
 ghost use Rattle.std.specs.Prelude.{◌≡◌, ◌≢◌, ◌↔◌, ◌<◌, ◌≤◌, List, [], false, length, replicate, slice_set, IfOk, OnErr, IsErrOf};
-ghost use Rattle.filemap.specs.Rows.{IsRows, place_of, is_routed, routed, extended};
+ghost use Rattle.filemap.specs.Rows.{IsRows, place_of, is_routed, routed, unrouted, extended};
 ghost use Rattle.filemap.specs.Maps.{IsMap, rows_of, map_tree};
 ghost use Rattle.filemap.specs.declared.rows.FileRow.{FileRow};
 
@@ -56,6 +56,14 @@ impl Filemap {
         self.ranks[rank as usize].route(alloc, name)
     }
 
+    /// Takes the last file of a rank back, if it has one.
+    pub fn unroute(&mut self, rank: u8)
+        requires { rank < length self.old }
+        ensures { self.new ≡ slice_set self.old rank (unrouted (rows_of self.old rank)) }
+    {
+        self.ranks[rank as usize].unroute();
+    }
+
     /// Makes a file of a rank at least so long: at most 1,048,576 bytes.
     pub fn extend(&mut self, rank: u8, file: u8, len: u32)
         requires rank { rank < length self.old }
@@ -68,7 +76,8 @@ impl Filemap {
 
     /// How many ranks there are.
     pub fn ranks(&self) -> u8
-        ensures { result ≡ length self.now }
+        ensures ranks { result ≡ length self.now }
+        ensures few { result ≤ 64 }
     {
         self.ranks.len() as u8
     }

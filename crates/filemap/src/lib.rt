@@ -10,6 +10,3 @@ mod tree_of_rows;
 pub use error::{MapError, RouteError};
 pub use filemap::Filemap;
 pub use rows::FileRow;
-
-#[cfg(test)]
-mod tests;

@@ -1,6 +1,6 @@
 ghost use Rattle.std.specs.Prelude.{◌≡◌, ◌↔◌, ◌<◌, ◌≤◌, ℕ, false, bytes_eq, [], length, IfOk, OnErr, IsErrOf};
 ghost use Rattle.std.specs.List.{position_or_len};
-ghost use Rattle.filemap.specs.Rows.{IsRows, place_of, is_routed, routed, extended};
+ghost use Rattle.filemap.specs.Rows.{IsRows, place_of, is_routed, routed, unrouted, extended};
 
 use crate::error::RouteError;
 use scr_base::{Copies, Memory, Name};
@@ -101,6 +101,14 @@ impl Rows {
         };
         self.rows.push(row)?;
         Ok(place as u8)
+    }
+
+    /// Takes the last file back, if there is one.
+    pub(crate) fn unroute(&mut self)
+        ensures { self.new ≡ unrouted self.old }
+    {
+        let left = self.rows.len().saturating_sub(1);
+        self.rows.truncate(left);
     }
 
     /// Makes a file at least so long.

@@ -52,6 +52,7 @@ pub stores : (want : Halt) (payload : List ℕ) (result : Result Bool DevError) 
 stores want payload result before after d e fits is sound steps =
     let step : StepsNext (codes "halt") (halt_payload want) result before after d e = subst (λ (p : List ℕ). StepsNext (codes "halt") p result before after d e) is steps in record {
       answer = step.answer;
+      full = step.full;
       stores = λ tells value stage. stores_on value want fits e result before after d sound (step.goes_on tells value stage);
       stage = step.stage;
       over = step.over;

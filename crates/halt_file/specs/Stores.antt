@@ -1,16 +1,16 @@
 -- The conditions on a device: the pair `halt`.
-use Rattle.std.specs.Prelude.{◌≡◌, ◌≢◌, ◌⊎◌, ◌<◌, ℕ, Bool, true, false, List, Option, None, Some, Result, OnOk, OnErr, IfOk, codes}
+use Rattle.std.specs.Prelude.{◌≡◌, ◌≢◌, ◌⊎◌, ◌<◌, ℕ, Bool, true, false, List, length, Option, None, Some, Result, OnOk, OnErr, IfOk, codes}
 use Rattle.scr_base.specs.Halt.{Halt, no_halt}
-use Rattle.scr_base.specs.Stages.{left, is_over}
+use Rattle.scr_base.specs.Stages.{left, next_of, is_over}
 use Rattle.scr_base.specs.declared.change.Change.{Change}
 use Rattle.node_device.specs.File.{IsAtRest}
 use Rattle.node_device.specs.DeviceState.{DeviceState, ReadsAlike}
 use Rattle.node_device.specs.Answers.{HasDeviceCause}
 use Rattle.node_device.specs.declared.device.DevError.{DevError}
 use Rattle.gated_record.specs.Frames.{ChangesPair}
-use Rattle.gated_record.specs.Pair.{pair_now, copy_name}
+use Rattle.gated_record.specs.Pair.{pair_now, copy_name, pair_body}
 use Rattle.gated_record.specs.PairStages.{PairLeaves, IsStageOf}
-use Rattle.gated_record.specs.PairSteps.{PairAnswers}
+use Rattle.gated_record.specs.PairSteps.{PairAnswers, NextAnswers}
 use Rattle.gated_record.specs.PairNext.{following, IsNextStage, GoesOn}
 use Rattle.gated_record.specs.declared.pair.PairValue.{PairValue}
 use Rattle.halt_file.specs.Payloads.{halt_payload, halt_of}
@@ -41,9 +41,11 @@ pub record StoresOn (value : Option PairValue) (want : Halt) (result : Result Bo
   pub stays : IfOk result (λ over. over ≡ true → HaltLeaves e (λ h. h ≡ want))
 
 -- One call of storing, whole: its answer, the stage before and after, and the state before and after. What is said of each
--- value holds on a device that tells its contents, where the stage is one of storing where that value stood.
+-- value holds on a device that tells its contents, where the stage is one of storing where that value stood. Of a begun stage
+-- Full is answered exactly where the change that comes next passes the capacity (`full`).
 pub record StoresHalt (want : Halt) (result : Result Bool DevError) (before after : Option (List Change)) (old new : DeviceState) : Type 0 where
   pub answer : PairAnswers (codes "halt") (following None (halt_payload want)) before old result
+  pub full : (changes : List Change) → before ≡ Some changes → NextAnswers (length (pair_body (following None (halt_payload want)))) (next_of before) old result
   pub stores : old.tells ≡ true → (value : Option PairValue) → IsStoring value want old before → StoresOn value want result before after old new
   pub stage : IsStageOf (codes "halt") after
   pub over : IfOk result (λ over. over ≡ is_over after)

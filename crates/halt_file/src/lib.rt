@@ -10,8 +10,3 @@ mod store;
 pub use halt::Halt;
 pub use laws::{a_store_begins_at_rest, payloads_tell};
 pub use store::{load, store_step};
-
-#[cfg(test)]
-mod store_tests;
-#[cfg(test)]
-mod tests;

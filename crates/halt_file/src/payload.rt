@@ -10,7 +10,7 @@ ghost use Rattle.halt_file.specs.Puts.{put_field};
 use crate::Halt;
 use crate::fields::{number_under, value_under};
 use itoa::Buffer;
-use kvtree::{Tree, TreeError, decode};
+use kvtree::{Tree, TreeError};
 use scr_base::{Bytes, Memory, Name, NameError};
 use std::alloc::Global;
 
@@ -131,7 +131,7 @@ fn told(alloc: Global, tree: &Tree) -> Result<Halt, Memory>
 pub(crate) fn halt_of(alloc: Global, payload: &[u8]) -> Result<Halt, Memory>
     ensures { IfOk result (λ halt. conditions halt ≡ halt_of payload.now) }
 {
-    let tree = match decode(alloc, payload) {
+    let tree = match Tree::decode(alloc, payload) {
         Ok(tree) => tree,
         Err(TreeError::Memory) => return Err(Memory),
         Err(_) => return Ok(Halt::none()),

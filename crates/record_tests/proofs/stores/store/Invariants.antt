@@ -2,7 +2,7 @@ use Rattle.std.proofs.Common.{◌+◌}
 use Rattle.std.specs.Prelude.{codes, if◌then◌else◌}
 use Rattle.scr_base.specs.Stages.{left}
 use Rattle.gated_record.specs.PairStages.{IsStageOf}
-use Rattle.halt_file.proofs.store_tests.store.Given as goal
+use Rattle.record_tests.proofs.stores.store.Given as goal
 
 abbrev pub invariant-loop-over : goal.invariant-loop-over
 invariant-loop-over g l = IsStageOf (codes "halt") l.stage

@@ -1,14 +1,14 @@
 ghost use Rattle.std.specs.Prelude.{◌≤◌, codes};
 ghost use Rattle.gated_record.specs.PairStages.{IsStageOf};
 
-use crate::{Halt, load, store_step};
+use halt_file::{Halt, load, store_step};
 use node_device::{DevError, Device, MemDevice};
 use scr_base::Stage;
 use std::alloc::Global;
 use std::test::Fail;
 
 /// Stores conditions, all the way.
-fn store<D: Device>(
+pub(crate) fn store<D: Device>(
     alloc: Global,
     dev: &mut D,
     want: &Halt,

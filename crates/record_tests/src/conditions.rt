@@ -1,6 +1,10 @@
-use crate::Halt;
-use crate::payload::{halt_of, payload_of};
-use scr_base::{HaltWord, Name, Reason};
+ghost use Rattle.std.specs.Prelude.{◌≤◌, length};
+
+use crate::stores::store;
+use gated_record::{open_gate, pair_load, write_body};
+use halt_file::{Halt, load};
+use node_device::{DevError, MemDevice};
+use scr_base::{Bytes, HaltWord, Name, Reason, Stage};
 use std::alloc::Global;
 use std::test::Fail;
 
@@ -144,6 +148,29 @@ const FIVE: &[u8] = b"\x00\x00\x00\x05\
 \x00\x0bCHECKPOINTS\x00\x00\x00\x01\x00\x0a4294967295\x00\x00\x00\x00\
 \x00\x06REASON\x00\x00\x00\x01\x00\x04done\x00\x00\x00\x00\
 \x00\x07SECONDS\x00\x00\x00\x01\x00\x017\x00\x00\x00\x00";
+
+/// The payload that stands where these conditions were stored.
+fn payload_of(alloc: Global, want: &Halt) -> Result<Bytes, DevError> {
+    let mut dev = MemDevice::new(alloc, 1_000, Vec::new(alloc))?;
+    let mut stage = Stage::new();
+    store(alloc, &mut dev, want, &mut stage)?;
+    match pair_load(alloc, &mut dev, b"halt")? {
+        Some(value) => Ok(value.body),
+        None => Err(DevError::NoFile),
+    }
+}
+
+/// What is told where this payload stands, in version 1.
+fn halt_of(alloc: Global, payload: &[u8]) -> Result<Halt, DevError>
+    requires { length payload.now ≤ 1000 }
+{
+    let mut dev = MemDevice::new(alloc, 2_000, Vec::new(alloc))?;
+    let mut body = Vec::from_slice(alloc, &[0, 0, 0, 1])?;
+    body.extend_from_slice(payload)?;
+    write_body(alloc, &mut dev, b"halt.1", &body)?;
+    open_gate(&mut dev, b"halt.1", 0)?;
+    load(alloc, &mut dev)
+}
 
 #[test]
 fn conditions_have_one_payload(rt: HostRuntime) -> Result<(), Fail> {

@@ -3,8 +3,8 @@
 ghost use Rattle.std.specs.Prelude.{◌↔◌, IsTrue};
 ghost use Rattle.kvtree.specs.Entries.{IsKey};
 
-use super::*;
-use kvtree::{Tree, decode};
+use dataset_desc::{Desc, DescError};
+use kvtree::Tree;
 use scr_base::{Copies, DataId, Flags, Name, Scheme};
 use std::alloc::Global;
 use std::process::Abort;
@@ -40,7 +40,7 @@ fn the_first_checkpoint_goes_both_ways(rt: HostRuntime) -> Result<(), Fail> {
     assert_eq!(rt; desc.to_tree(alloc)?.encode()?.list(), FIRST);
 
     // The keys of a member record stand beside the parts.
-    let mut tree = decode(alloc, FIRST)?;
+    let mut tree = Tree::decode(alloc, FIRST)?;
     tree.put(b"FILES", Tree::empty(alloc))?;
     tree.put(b"FORMAT", Tree::number(alloc, 1)?)?;
     tree.put(b"NODE", Tree::number(alloc, 0)?)?;
@@ -66,7 +66,7 @@ fn describes(
     assert!(rt; is_key(part));
     assert!(rt; is_key(key));
     assert!(rt; is_key(value));
-    let mut tree = decode(alloc, FIRST)?;
+    let mut tree = Tree::decode(alloc, FIRST)?;
     let mut below = match tree.get(part) {
         Some(below) => below.copy()?,
         None => Tree::empty(alloc),

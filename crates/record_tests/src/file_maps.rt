@@ -1,7 +1,7 @@
 //! The files of the first checkpoint, there and back, and the order of routes.
 
-use super::*;
-use kvtree::decode;
+use filemap::{Filemap, MapError, RouteError};
+use kvtree::Tree;
 use scr_base::Name;
 use std::test::Fail;
 
@@ -18,7 +18,7 @@ fn the_first_checkpoint_goes_both_ways(rt: HostRuntime) -> Result<(), Fail> {
     map.extend(0, 0, 3);
     map.extend(0, 0, 2);
     assert_eq!(rt; map.copy()?.to_tree()?.encode()?.list(), FIRST);
-    let again = Filemap::from_tree(alloc, &decode(alloc, FIRST)?, 1)?;
+    let again = Filemap::from_tree(alloc, &Tree::decode(alloc, FIRST)?, 1)?;
     assert_eq!(rt; again.to_tree()?.encode()?.list(), FIRST);
     assert_eq!(rt; again.ranks(), 1);
     Ok(())
@@ -96,7 +96,7 @@ fn only_the_tree_of_a_map_is_read(rt: HostRuntime) -> Result<(), Fail> {
             false,
         ),
     ] {
-        let found = Filemap::from_tree(alloc, &decode(alloc, bytes)?, 1);
+        let found = Filemap::from_tree(alloc, &Tree::decode(alloc, bytes)?, 1);
         assert!(rt; found.is_ok() == want);
     }
     Ok(())
