@@ -20,6 +20,7 @@ use Rattle.gated_record.proofs.Plans.{open_within}
 use Rattle.gated_record.proofs.Copies.{in_its_copy, by_one}
 use Rattle.gated_record.proofs.PairWay.{copies_by_leaves}
 use Rattle.gated_record.proofs.PairRooms.{opened_none, closing_has}
+use Rattle.node_device.proofs.Sparing.{unchanged_spared}
 use Rattle.gated_record.proofs.PairSteps.{unchanged_pair, unchanged_alike, is_copy_name, may_step, steps_ok, steps_err}
 
 -- the version that is next belongs in the other copy
@@ -222,6 +223,7 @@ first_call stem want d e changes (Ok over) after late sound finds few steps same
   fewer = λ is. let le = steps.fewer is in subst (λ (x : Option (List Change)). left x < 2 ^ 64) (sym same) (omega (arith, le, few));
   refused = tt;
   alike = tt;
+  spared = tt;
   only = steps.only;
   rest = steps.rest;
   cause = steps.cause;
@@ -239,6 +241,7 @@ first_call stem want d e changes (Err fault) after late sound finds few steps sa
   fewer = tt;
   refused = none;
   alike = steps.alike;
+  spared = steps.spared;
   only = steps.only;
   rest = tt;
   cause = steps.cause;
@@ -306,6 +309,7 @@ unbegun X stem want d e None fault none same answer cause = record {
   fewer = tt;
   refused = refl;
   alike = unchanged_alike d e same;
+  spared = unchanged_spared {T = Bool} d e (Err fault) same (by_cause fault cause);
   only = unchanged_pair stem d e same;
   rest = tt;
   cause = by_cause fault cause;

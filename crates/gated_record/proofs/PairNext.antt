@@ -1,16 +1,18 @@
 -- A step to a payload is a step to its value in the next version.
 use Rattle.std.proofs.Common.{◌≡◌, ◌<◌, ◌≤◌, ◌+◌, ◌-◌, ◌^◌, ℕ, Bool, true, false, cond, List, [], ◌∷◌, Option, None, Some, refl, sym, ◌∙◌, ap, subst, arith, lit≤, inl}
-use Rattle.std.specs.Prelude.{◌==◌, Result, Ok, Err, OnOk, IfOk}
+use Rattle.std.specs.Prelude.{◌==◌, Result, Ok, Err, OnOk, IfOk, IsOk, length}
 use Rattle.scr_base.specs.declared.change.Change.{Change}
-use Rattle.scr_base.specs.Stages.{passed, is_over}
+use Rattle.scr_base.specs.declared.change.Change.TheVariants.{Open, Close, Write, Sync, Remove}
+use Rattle.scr_base.specs.Stages.{passed, next_of, is_over}
 use Rattle.node_device.specs.File.{File, MayLeave}
-use Rattle.node_device.specs.DeviceState.{DeviceState, IsSound, IsUnchanged}
-use Rattle.node_device.specs.Answers.{HasDeviceCause, NamesAnswers}
+use Rattle.node_device.specs.DeviceState.{DeviceState, IsSound, IsUnchanged, used_of}
+use Rattle.node_device.specs.Answers.{HasDeviceCause, NamesAnswers, WriteAnswers, SyncAnswers, RemoveAnswers}
 use Rattle.node_device.specs.declared.device.DevError.{DevError}
 use Rattle.node_device.specs.declared.device.DevError.TheVariants.{Failed, Full, NoFile, Range, Memory}
+use Rattle.gated_record.specs.Record.{BodyAnswers}
 use Rattle.gated_record.specs.Pair.{value_in, copy_name, pair_body, pair_now, copy_of}
 use Rattle.gated_record.specs.PairStages.{PairLeaves, IsOldOrWanted, IsStageOf, Phase, Closing, Filling, Filled, Ready, Opened, Standing, Closed, Over, PhaseHolds, FillingHolds, IsOnWay, IsPairStage, changes_at, value_by}
-use Rattle.gated_record.specs.PairSteps.{PairAnswers, StepAnswers, StepMade, StepsPair, Goes, PairStands, KeepsRoom, bare}
+use Rattle.gated_record.specs.PairSteps.{PairAnswers, NextAnswers, StepAnswers, StepMade, StepsPair, Goes, PairStands, KeepsRoom, bare}
 use Rattle.gated_record.specs.PairNext.{version_after, following, IsNextStage, GoesOn, StepsNext}
 use Rattle.gated_record.specs.declared.pair.PairValue.{PairValue}
 use Rattle.gated_record.proofs.Copies.{by_none}
@@ -128,12 +130,61 @@ module _ (stem payload : List ℕ) (value standing : Option PairValue) (d e : De
   step_goes_on result None after fits steps stage = first result after fits steps stage
   step_goes_on result (Some changes) after fits steps stage = later changes stage result after steps
 
+-- the answer of a change is that of its write
+module _ (body : List ℕ) (d e : DeviceState) where
+  gate_full : (name : List ℕ) (gate : ℕ) (r : Result Bool DevError) → WriteAnswers (d.file name) (used_of d) d.capacity gate 1 (bare r) → NextAnswers (length body) (Some (Open name gate)) d r
+  gate_full name gate (Ok x) a = a.1
+  gate_full name gate (Err Failed) a = tt
+  gate_full name gate (Err Full) a = a.1
+  gate_full name gate (Err NoFile) a = tt
+  gate_full name gate (Err Range) a = tt
+  gate_full name gate (Err Memory) a = tt
+
+  body_full : (name : List ℕ) (r : Result Bool DevError) → BodyAnswers d name (length body) (bare r) → NextAnswers (length body) (Some (Write name)) d r
+  body_full name (Ok x) a = a
+  body_full name (Err Failed) a = tt
+  body_full name (Err Full) a = a
+  body_full name (Err NoFile) a = tt
+  body_full name (Err Range) a = tt
+  body_full name (Err Memory) a = tt
+
+  sync_full : (r : Result Bool DevError) → SyncAnswers (bare r) → NextAnswers (length body) (Some Sync) d r
+  sync_full (Ok x) a = λ passes. passes
+  sync_full (Err Failed) a = tt
+  sync_full (Err Full) a = a
+  sync_full (Err NoFile) a = tt
+  sync_full (Err Range) a = tt
+  sync_full (Err Memory) a = tt
+
+  remove_full : (name : List ℕ) (r : Result Bool DevError) → RemoveAnswers (d.file name) (bare r) → NextAnswers (length body) (Some (Remove name)) d r
+  remove_full name (Ok x) a = λ passes. passes
+  remove_full name (Err Failed) a = tt
+  remove_full name (Err Full) a = a
+  remove_full name (Err NoFile) a = tt
+  remove_full name (Err Range) a = tt
+  remove_full name (Err Memory) a = tt
+
+  none_full : (r : Result Bool DevError) → IsOk (bare r) → NextAnswers (length body) None d r
+  none_full (Ok x) ok = λ passes. passes
+  none_full (Err fault) ok = absurd cc
+
+  next_answer : (r : Result Bool DevError) (changes : List Change) → StepMade (Some changes) body (bare r) d e → NextAnswers (length body) (next_of (Some changes)) d r
+  next_answer r [] made = none_full r made.1
+  next_answer r (Open name gate ∷ later) made = gate_full name gate r made.answer
+  next_answer r (Close name gate ∷ later) made = gate_full name gate r made.answer
+  next_answer r (Write name ∷ later) made = body_full name r made.answer
+  next_answer r (Sync ∷ later) made = sync_full r made.answer
+  next_answer r (Remove name ∷ later) made = remove_full name r made.answer
+
 -- a call whose value in the next version was found first
 pub stepped : (stem payload : List ℕ) (want : PairValue) (c d e : DeviceState) (result : Result Bool DevError) (before after : Option (List Change)) → IsSound c → IsUnchanged c d → d.faults ≡ c.faults → want.body ≡ payload → want.version < 2 ^ 32
     → (c.tells ≡ true → want ≡ following (pair_now stem c) payload) → StepsPair stem want result before after d e → StepsNext stem payload result before after c e
 stepped stem payload want c d e result before after sound same faults body fits found steps =
     let here : StepsPair stem want result before after c e = after_calls stem want c d e result before after same faults steps in record {
       answer = subst (λ (b : List ℕ). PairAnswers stem (record { version = want.version; body = b }) before c result) body here.answer;
+      full = λ changes is.
+          subst (λ (b : List ℕ). NextAnswers (length (pair_body (record { version = want.version; body = b }))) (next_of before) c result) body
+          (subst (λ (s : Option (List Change)). NextAnswers (length (pair_body want)) (next_of s) c result) (sym is) (next_answer (pair_body want) c e result changes (here.made changes is)));
       goes_on = λ tells value stage.
           let is = found tells in
           step_goes_on stem payload value (pair_now stem c) c e sound tells refl result before after (subst (λ (w : PairValue). w.version < 2 ^ 32) is fits) (subst (λ (w : PairValue). StepsPair stem w result before after c e) is here) stage;
@@ -176,6 +227,7 @@ stage_leaves stem payload value d (Some changes) tells is = way_leaves stem valu
 pub unstepped : (X : Type 0) (stem payload : List ℕ) (c d : DeviceState) (stage : Option (List Change)) (fault : DevError) → IsSound c → IsStageOf stem stage → IsUnchanged c d → NamesAnswers {T = X} (Err fault) → HasDeviceCause {T = X} c d (Err fault) → StepsNext stem payload (Err fault) stage stage c d
 unstepped X stem payload c d stage fault sound of_pair same answer cause = record {
   answer = pair_fault fault answer;
+  full = λ changes is. next_fault fault answer;
   goes_on = λ tells value is. record { exact = step_fault value fault answer; leaves = subst (λ (s : DeviceState). PairLeaves stem s (IsOldOrWanted value (following value payload))) (sym same) (stage_leaves stem payload value c stage tells is); stage = tt; room = tt; stands = tt };
   stage = of_pair;
   over = tt;
@@ -200,6 +252,13 @@ unstepped X stem payload c d stage fault sound of_pair same answer cause = recor
     pair_fault NoFile a = absurd a
     pair_fault Range a = absurd a
     pair_fault Memory a = tt
+
+    next_fault : (x : DevError) → NamesAnswers {T = X} (Err x) → NextAnswers {T = Bool} (length (pair_body (following None payload))) (next_of stage) c (Err x)
+    next_fault Failed a = tt
+    next_fault Full a = absurd a
+    next_fault NoFile a = tt
+    next_fault Range a = tt
+    next_fault Memory a = tt
 
     step_fault : (value : Option PairValue) (x : DevError) → NamesAnswers {T = X} (Err x) → StepAnswers {T = Bool} stem (following value payload) stage c (Err x)
     step_fault value Failed a = tt

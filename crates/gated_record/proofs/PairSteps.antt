@@ -9,7 +9,7 @@ use Rattle.node_device.specs.File.{File, MayLeave, IsAtRest, IsKept}
 use Rattle.node_device.specs.DeviceState.{DeviceState, used_of, IsUnchanged, IsSound, IsDeviceName, ChangesOnly, ReadsAlike}
 use Rattle.node_device.specs.Calls.{Syncs}
 use Rattle.node_device.specs.Outcomes.{rest_leaves}
-use Rattle.node_device.specs.Answers.{HasDeviceCause, SyncAnswers, WriteAnswers, Passes}
+use Rattle.node_device.specs.Answers.{HasDeviceCause, IsSpared, SyncAnswers, WriteAnswers, Passes}
 use Rattle.node_device.specs.declared.device.DevError.{DevError}
 use Rattle.node_device.specs.declared.device.DevError.TheVariants.{Failed, Full, NoFile, Range, Memory}
 use Rattle.gated_record.specs.Record.{BodyAnswers, open_gate_byte}
@@ -207,6 +207,33 @@ module _ (stem : List ℕ) (want : PairValue) (d e : DeviceState) (fault : DevEr
       by Sync is syncs = syncs.alike
       by (Remove name) is removes = absurd is
 
+-- refused without a fault it leaves the device as it was
+module _ (stem : List ℕ) (want : PairValue) (d e : DeviceState) where
+  pub refused_spared : (fault : DevError) (changes : List Change) → All (IsChangeOf stem) changes → StepMade {T = Unit {0}} (Some changes) (pair_body want) (Err fault) d e → IsSpared {T = Bool} d e (Err fault)
+  refused_spared fault [] all made = let is = made.1 in absurd (cc is)
+  refused_spared fault (change ∷ later) all made = bare_spared fault (by change (all 0 Sync (omega arith)) made)
+    where
+      bare_spared : (x : DevError) → IsSpared {T = Unit {0}} d e (Err x) → IsSpared {T = Bool} d e (Err x)
+      bare_spared Failed s = s
+      bare_spared Full s = s
+      bare_spared NoFile s = s
+      bare_spared Range s = s
+      bare_spared Memory s = s
+
+      synced : (x : DevError) → SyncAnswers {T = Unit {0}} (Err x) → IsSpared {T = Unit {0}} d e (Err x)
+      synced Failed a = tt
+      synced Full a = absurd a
+      synced NoFile a = absurd a
+      synced Range a = absurd a
+      synced Memory a = absurd a
+
+      by : (c : Change) → IsChangeOf stem c → StepMade {T = Unit {0}} (Some (c ∷ later)) (pair_body want) (Err fault) d e → IsSpared {T = Unit {0}} d e (Err fault)
+      by (Open name gate) is turns = turns.spared
+      by (Close name gate) is turns = turns.spared
+      by (Write name) is writes = writes.spared
+      by Sync is syncs = synced fault syncs.answer
+      by (Remove name) is removes = absurd is
+
 module _ (stem : List ℕ) (old : Option PairValue) (want : PairValue) (d : DeviceState) where
   abbrev t : List ℕ
   t = copy_name stem (copy_of want)
@@ -358,6 +385,7 @@ module _ (stem : List ℕ) (want : PairValue) (above : 1 ≤ want.version) (fits
         fewer = λ is. subst (λ (x : Option (List Change)). left x < left (Some changes)) (sym after_is) (fewer_left changes (ap is_over (sym after_is) ∙ sym over_is ∙ is));
         refused = tt;
         alike = tt;
+        spared = tt;
         only = known.1;
         rest = λ q n0 n1 at_rest. rests stem want d e q n0 n1 at_rest changes all made;
         cause = known.2;
@@ -381,6 +409,7 @@ module _ (stem : List ℕ) (want : PairValue) (above : 1 ≤ want.version) (fits
         fewer = tt;
         refused = same;
         alike = refused_alike stem want d e fault changes all made;
+        spared = refused_spared stem want d e fault changes all made;
         only = known.1;
         rest = tt;
         cause = cause_err fault known.2;

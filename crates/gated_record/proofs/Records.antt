@@ -132,6 +132,7 @@ unwritten name body d (Err Memory) is = record {
   shut = λ shut. shut;
   torn = same_torn 8 (8 + length body) (d.file name);
   refused = record { tells = refl; capacity = refl; names = refl; files = λ q. same_kept (d.file q) };
+  spared = refl;
   only = record { tells = refl; capacity = refl; others = λ q other. refl };
   cause = refl;
 }

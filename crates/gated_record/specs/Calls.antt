@@ -2,7 +2,7 @@
 use Rattle.std.specs.Prelude.{◌≡◌, ◌≤◌, ◌+◌, ℕ, true, List, length, set, Some, Result, OnOk, OnErr, IsSomeAnd}
 use Rattle.node_device.specs.File.{Torn, bytes_of}
 use Rattle.node_device.specs.DeviceState.{DeviceState, ChangesOnly, ReadsAlike, used_of}
-use Rattle.node_device.specs.Answers.{HasDeviceCause, WriteAnswers, SyncAnswers}
+use Rattle.node_device.specs.Answers.{HasDeviceCause, IsSpared, WriteAnswers, SyncAnswers}
 use Rattle.node_device.specs.declared.device.DevError.{DevError}
 use Rattle.gated_record.specs.Record.{HasBody, HasShutGates, HasPlace, BodyAnswers}
 
@@ -14,6 +14,7 @@ pub record WritesBody {T : Type 0} (name body : List ℕ) (result : Result T Dev
   pub shut : HasShutGates (old.file name) → HasShutGates (new.file name)
   pub torn : Torn 8 (8 + length body) (old.file name) (new.file name)
   pub refused : OnErr result (ReadsAlike old new)
+  pub spared : IsSpared old new result
   pub only : ChangesOnly name old new
   pub cause : HasDeviceCause old new result
 
@@ -25,5 +26,6 @@ pub record TurnsGate {T : Type 0} (name : List ℕ) (gate byte : ℕ) (result : 
   pub now : HasPlace (old.file name) gate → old.tells ≡ true → OnOk result ((new.file name).now ≡ Some (set (bytes_of (old.file name).now) gate byte))
   pub torn : Torn gate 1 (old.file name) (new.file name)
   pub refused : OnErr result (ReadsAlike old new)
+  pub spared : IsSpared old new result
   pub only : ChangesOnly name old new
   pub cause : HasDeviceCause old new result

@@ -7,3 +7,4 @@ pub mod PairStages
 pub mod Frames
 pub mod PairSteps
 pub mod PairNext
+pub mod Whole

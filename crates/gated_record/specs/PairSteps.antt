@@ -1,11 +1,11 @@
 -- What one step of a pair does: the changes that were found, and what is made of one of them.
 use Rattle.std.specs.Prelude.{◌≡◌, ◌≢◌, ◌⊎◌, ◌<◌, ◌≤◌, ◌+◌, ◌-◌, ℕ, Bool, true, false, List, [], ◌∷◌, ◌++◌, length, take, unwrap_or, Option, None, Some, Result, Ok, Err, OnOk, OnErr, IfOk, IsOk}
 use Rattle.scr_base.specs.declared.change.Change.{Change}
-use Rattle.scr_base.specs.declared.change.Change.TheVariants.{Open, Write, Sync}
+use Rattle.scr_base.specs.declared.change.Change.TheVariants.{Open, Close, Write, Sync}
 use Rattle.scr_base.specs.Stages.{left, next_of, passed, is_over}
 use Rattle.node_device.specs.File.{IsAtRest, bytes_of}
 use Rattle.node_device.specs.DeviceState.{DeviceState, IsUnchanged, ReadsAlike, used_of}
-use Rattle.node_device.specs.Answers.{HasDeviceCause, Passes}
+use Rattle.node_device.specs.Answers.{HasDeviceCause, IsSpared, Passes}
 use Rattle.node_device.specs.declared.device.DevError.{DevError}
 use Rattle.node_device.specs.declared.device.DevError.TheVariants.{Failed, Full, Memory}
 use Rattle.gated_record.specs.Record.{is_open}
@@ -103,6 +103,7 @@ pub record StepsPair (stem : List ℕ) (want : PairValue) (result : Result Bool 
   pub fewer : IfOk result (λ over. over ≡ false → left after < left before)
   pub refused : OnErr result (after ≡ before)
   pub alike : OnErr result (ReadsAlike old new)
+  pub spared : IsSpared old new result
   pub only : ChangesPair stem old new
   pub rest : OnOk result ((q : List ℕ) → q ≢ copy_name stem 0 → q ≢ copy_name stem 1 → IsAtRest (old.file q) → IsAtRest (new.file q))
   pub cause : HasDeviceCause old new result
@@ -112,3 +113,16 @@ abbrev pub MayStep : Option (List Change) → List ℕ → Type 0
 MayStep None body = Unit {0}
 MayStep (Some []) body = Unit {0}
 MayStep (Some (change ∷ later)) body = MayMake change body
+
+-- the change is a write that passes the capacity, where a body of n bytes is written
+abbrev pub PassesBy : ℕ → Option Change → DeviceState → Type 0
+PassesBy n (Some (Open name gate)) d = Passes (d.file name) (used_of d) d.capacity gate 1
+PassesBy n (Some (Close name gate)) d = Passes (d.file name) (used_of d) d.capacity gate 1
+PassesBy n (Some (Write name)) d = Passes (d.file name) (used_of d) d.capacity 8 (8 + n)
+PassesBy n _ d = ⊥
+
+-- Full exactly where the change that comes next passes the capacity, whatever the device tells
+abbrev pub NextAnswers : {T : Type 0} → ℕ → Option Change → DeviceState → Result T DevError → Type 0
+NextAnswers n next d (Ok _) = ¬ PassesBy n next d
+NextAnswers n next d (Err Full) = PassesBy n next d
+NextAnswers n next d (Err _) = Unit {0}

@@ -2,6 +2,7 @@
 //! by a write of its own once the body is stable.
 #![tactic(auto)]
 
+pub mod laws;
 mod making;
 mod pair;
 mod pair_next;
@@ -14,10 +15,3 @@ pub use pair_next::pair_next_step;
 pub use pair_steps::pair_step;
 pub use reading::{Record, load, read_record};
 pub use record::{Loaded, close_gate, open_gate, write_body};
-
-#[cfg(test)]
-mod next_tests;
-#[cfg(test)]
-mod pair_tests;
-#[cfg(test)]
-mod tests;

@@ -2,8 +2,9 @@ ghost use Rattle.std.specs.Prelude.{◌≡◌, ◌<◌, ◌≤◌, ◌+◌, ◌^
 ghost use Rattle.std.specs.Int.{to_be_bytes, w64};
 ghost use Rattle.node_device.specs.File.{IsAtRest, Torn, bytes_of};
 ghost use Rattle.node_device.specs.DeviceState.{IsDeviceName, IsUnchanged, ChangesOnly, ReadsAlike, used_of};
-ghost use Rattle.node_device.specs.Answers.{HasDeviceCause, WriteAnswers, SyncAnswers, NamesAnswers};
+ghost use Rattle.node_device.specs.Answers.{HasDeviceCause, IsSpared, WriteAnswers, SyncAnswers, NamesAnswers};
 ghost use Rattle.gated_record.specs.Record.{HasBody, HasShutGates, HasPlace, KeepsBody, IsOpen, BodyAnswers, gates_of, open_gate_byte};
+ghost use Rattle.gated_record.specs.Calls.{TurnsGate};
 
 use node_device::{DevError, Device};
 use scr_base::Bytes;
@@ -53,6 +54,7 @@ pub fn write_body<D: Device>(
     ensures shut { HasShutGates ((D.state dev.old).file name.now) → HasShutGates ((D.state dev.new).file name.now) }
     ensures torn { Torn 8 (8 + length body.now) ((D.state dev.old).file name.now) ((D.state dev.new).file name.now) }
     ensures refused { OnErr result (ReadsAlike (D.state dev.old) (D.state dev.new)) }
+    ensures spared { IsSpared (D.state dev.old) (D.state dev.new) result }
     ensures only { ChangesOnly name.now (D.state dev.old) (D.state dev.new) }
     ensures cause { HasDeviceCause (D.state dev.old) (D.state dev.new) result }
 {
@@ -73,10 +75,11 @@ pub fn open_gate<D: Device>(dev: &mut D, name: &[u8], gate: u8) -> Result<(), De
     ensures torn { Torn gate 1 ((D.state dev.old).file name.now) ((D.state dev.new).file name.now) }
     ensures kept { IsAtRest ((D.state dev.old).file name.now) → (body : List ℕ) → HasBody ((D.state dev.old).file name.now).now body → KeepsBody ((D.state dev.new).file name.now) body }
     ensures refused { OnErr result (ReadsAlike (D.state dev.old) (D.state dev.new)) }
+    ensures spared { IsSpared (D.state dev.old) (D.state dev.new) result }
     ensures only { ChangesOnly name.now (D.state dev.old) (D.state dev.new) }
     ensures cause { HasDeviceCause (D.state dev.old) (D.state dev.new) result }
 {
-    dev.write(name, gate as u64, &[OPEN])
+    turn_gate(dev, name, gate, OPEN)
 }
 
 /// Closes a gate, by one write of one byte. Where the body was whole and stable before, a stop leaves it whole. Where the file
@@ -92,10 +95,21 @@ pub fn close_gate<D: Device>(dev: &mut D, name: &[u8], gate: u8) -> Result<(), D
     ensures torn { Torn gate 1 ((D.state dev.old).file name.now) ((D.state dev.new).file name.now) }
     ensures kept { IsAtRest ((D.state dev.old).file name.now) → (body : List ℕ) → HasBody ((D.state dev.old).file name.now).now body → KeepsBody ((D.state dev.new).file name.now) body }
     ensures refused { OnErr result (ReadsAlike (D.state dev.old) (D.state dev.new)) }
+    ensures spared { IsSpared (D.state dev.old) (D.state dev.new) result }
     ensures only { ChangesOnly name.now (D.state dev.old) (D.state dev.new) }
     ensures cause { HasDeviceCause (D.state dev.old) (D.state dev.new) result }
 {
-    dev.write(name, gate as u64, &[SHUT])
+    turn_gate(dev, name, gate, SHUT)
+}
+
+/// Writes the byte of a gate.
+fn turn_gate<D: Device>(dev: &mut D, name: &[u8], gate: u8, byte: u8) -> Result<(), DevError>
+    requires name { IsDeviceName name.now }
+    requires gate { gate < 8 }
+    ensures turns { TurnsGate name.now gate byte result (D.state dev.old) (D.state dev.new) }
+    ensures kept { IsAtRest ((D.state dev.old).file name.now) → (body : List ℕ) → HasBody ((D.state dev.old).file name.now).now body → KeepsBody ((D.state dev.new).file name.now) body }
+{
+    dev.write(name, gate as u64, &[byte])
 }
 
 /// The open gates as a number.

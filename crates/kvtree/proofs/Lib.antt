@@ -7,3 +7,4 @@ pub mod Only
 pub mod First
 pub mod ByPlace
 pub mod Numbers
+pub mod Halving

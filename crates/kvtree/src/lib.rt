@@ -9,7 +9,4 @@ mod writing;
 
 pub use error::TreeError;
 pub use number::number_of;
-pub use tree::{Tree, decode};
-
-#[cfg(test)]
-mod tests;
+pub use tree::Tree;

@@ -1,9 +1,10 @@
 ghost use Rattle.std.specs.Prelude.{◌≡◌, ◌≢◌, ℕ, List, [], slice_get, decimal, ◌^◌, MatchOption, Some, None, ◌<◌, ◌≤◌, ◌++◌, length, OnOk, OnErr, IfOk, Ok, Err};
 ghost use Rattle.std.specs.Option.{option_copied};
-ghost use Rattle.kvtree.specs.Entries.{Entries, none, width, depth, IsKey, IsTree};
+ghost use Rattle.kvtree.specs.Entries.{Entries, none, width, depth, IsKey, IsTree, AreAbove};
 ghost use Rattle.kvtree.specs.Lookup.{get, put, Puts, entry_at, entry_under, leaf};
 ghost use Rattle.kvtree.specs.declared.error.TreeError.TheVariants.{Short};
-ghost use Rattle.kvtree.specs.Places.{place_in, holds_at};
+ghost use Rattle.kvtree.specs.Places.{place_in, holds_at, below_at};
+ghost use Rattle.kvtree.specs.Children.{entries_of};
 ghost use Rattle.kvtree.specs.Encoding.{encoding, IsEncoding};
 ghost use Rattle.kvtree.specs.Reading.{Gives, tree_at, all_of};
 
@@ -90,15 +91,11 @@ impl Tree {
     }
 
     /// The tree under a key, if there is one.
+    #[tactic(auto, using(crate::proofs::Halving::halving_laws))]
     pub fn get(&self, key: &[u8]) -> Option<&Tree>
         ensures { option_copied result ≡ get self.now key.now }
     {
-        for child in &self.children {
-            if child.key.list().cmp(key) == Ordering::Equal {
-                return Some(&child.tree);
-            }
-        }
-        None
+        self.child_under(place_of(&self.children, key), key)
     }
 
     /// The child at a place, counted from 0 by ascending keys, with its key.
@@ -213,6 +210,21 @@ impl Tree {
         Ok(())
     }
 
+    /// The tree that the bytes are the encoding of. Where they are that of no tree, the first fault from
+    /// the front, with its place; `Memory` where there is none for the tree.
+    pub fn decode(alloc: Global, bytes: &[u8]) -> Result<Tree, TreeError>
+        // What is read is encoded so.
+        ensures found { IfOk result (λ t. IsEncoding t bytes.now) }
+        // What is an encoding is read, unless memory is wanting.
+        ensures only { (t : Entries) → IsEncoding t bytes.now → Gives (λ t. t) result (Ok t) }
+        // Which fault it is, and where.
+        ensures exact { Gives (λ t. t) result (all_of bytes.now) }
+        // Where an encoding is cut, the input ends inside a field.
+        ensures cut { (t : Entries) (more : List ℕ) → more ≢ [] → IsEncoding t (bytes.now ++ more) → Gives (λ t. t) result (Err (Short (length bytes.now))) }
+    {
+        whole(alloc, bytes)
+    }
+
     /// The one encoding of the tree, which is at most 16 deep.
     pub fn encode(&self) -> Result<Bytes, Memory>
         requires { depth self.now ≤ 16 }
@@ -235,18 +247,38 @@ fn bytes_of(alloc: Global, bytes: &[u8]) -> Result<Bytes, Memory>
 /// The greatest number of children that has an encoding.
 const MAX_CHILDREN: usize = 0xffff_ffff;
 
-/// Where the first key stands that isn't below `key`.
+/// Where the first key stands that isn't below `key`. Where all keys are below it, that is found at once; else by
+/// halving.
+#[tactic(auto, using(crate::proofs::Halving::halving_laws))]
 fn place_of(children: &[Child], key: &[u8]) -> usize
+    requires { AreAbove [] (entries_of children.now) }
     ensures { result ≡ place_in children.now key.now }
 {
-    let mut at = 0;
-    for child in children {
-        if child.key.list().cmp(key) != Ordering::Less {
-            return at;
-        }
-        at += 1;
+    let len = children.len();
+    if len == 0 || is_below(children, len - 1, key) {
+        return len;
     }
-    at
+    let mut low = 0;
+    let mut high = len - 1;
+    while low < high {
+        let middle = low + (high - low) / 2;
+        if is_below(children, middle, key) {
+            low = middle + 1;
+        } else {
+            high = middle;
+        }
+    }
+    low
+}
+
+/// Does a key stand at this place that is below this one?
+fn is_below(children: &[Child], at: usize, key: &[u8]) -> bool
+    ensures { result ≡ below_at children.now at key.now }
+{
+    match children.get(at) {
+        None => false,
+        Some(child) => child.key.list().cmp(key) == Ordering::Less,
+    }
 }
 
 /// `children.get(at)`, with its answer as one equation.
@@ -305,19 +337,4 @@ fn whole(alloc: Global, bytes: &[u8]) -> Result<Tree, TreeError>
         });
     }
     Ok(tree)
-}
-
-/// The tree that the bytes are the encoding of. Where they are that of no tree, the first fault from
-/// the front, with its place; `Memory` where there is none for the tree.
-pub fn decode(alloc: Global, bytes: &[u8]) -> Result<Tree, TreeError>
-    // What is read is encoded so.
-    ensures found { IfOk result (λ t. IsEncoding t bytes.now) }
-    // What is an encoding is read, unless memory is wanting.
-    ensures only { (t : Entries) → IsEncoding t bytes.now → Gives (λ t. t) result (Ok t) }
-    // Which fault it is, and where.
-    ensures exact { Gives (λ t. t) result (all_of bytes.now) }
-    // Where an encoding is cut, the input ends inside a field.
-    ensures cut { (t : Entries) (more : List ℕ) → more ≢ [] → IsEncoding t (bytes.now ++ more) → Gives (λ t. t) result (Err (Short (length bytes.now))) }
-{
-    whole(alloc, bytes)
 }

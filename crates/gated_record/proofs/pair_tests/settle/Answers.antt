@@ -1,7 +1,0 @@
-use Rattle.gated_record.proofs.pair_tests.settle.Goals as goal
-
-pub loop-over-init : goal.loop-over-init
-loop-over-init g c = c.requires.stage
-
-pub loop-over-preserved : goal.loop-over-preserved
-loop-over-preserved g c = c.in_ok-over.ensures.stage
