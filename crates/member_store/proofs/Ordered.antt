@@ -1,7 +1,7 @@
 -- Members in order, and one more at its place.
 use Rattle.std.proofs.Common.{◌≡◌, ◌⊎◌, inl, inr, ◌<◌, ◌≤◌, ◌+◌, ℕ, zero, suc, List, [], ◌∷◌, Some, length, get_or, refl, sym, ◌∙◌, ap, subst, arith, slice_get}
 use Rattle.std.specs.Prelude.{insert}
-use Rattle.std.proofs.lemmas.Option.{slice_get_within, slice_get-get_or, get_or_from_slice_get}
+use Rattle.std.proofs.lemmas.Option.{slice_get_within, slice_get-get_or}
 use Rattle.member_store.specs.Members.{IsBefore}
 use Rattle.member_store.specs.Scanning.{AreAscending, IsPlaceFor, PutsMember}
 use Rattle.member_store.specs.declared.member.Member.{Member}
@@ -92,14 +92,23 @@ ascending xs ys m ascend puts other = subst AreAscending (sym puts.put) (λ i j 
 
 -- ## Finding the place
 
-pub one_more : (xs : List Member) (place index : ℕ) (m other : Member) → place ≡ index → other ≡ get_or xs index other → IsBefore other m → ((i : ℕ) (a : Member) → i < place → slice_get xs i ≡ Some a → IsBefore a m) → (i : ℕ) (a : Member) → i < place + 1 → slice_get xs i ≡ Some a → IsBefore a m
-one_more xs place index m other same is less before i a lt at = pick (split i place lt) where
+-- those up to one that is before are before
+pub up_to : (xs : List Member) (at : ℕ) (m other : Member) → AreAscending xs → at < length xs → other ≡ get_or xs at other → IsBefore other m → (i : ℕ) (a : Member) → i < at + 1 → slice_get xs i ≡ Some a → IsBefore a m
+up_to xs at m other ascend lt is less i a below there = pick (split i at below) where
   split : (u v : ℕ) → u < v + 1 → (u < v) ⊎ (u ≡ v)
   split u v lt = grind (arith, lt)
 
-  pick : (i < place) ⊎ (i ≡ place) → IsBefore a m
-  pick (inl below) = before i a below at
-  pick (inr here) = subst (λ (x : Member). IsBefore x m) (is ∙ get_or_from_slice_get xs index a other (ap (slice_get xs) (sym (here ∙ same)) ∙ at)) less
+  here : slice_get xs at ≡ Some other
+  here = slice_get-get_or xs at other lt ∙ ap Some (sym is)
 
-pub all_before : (xs : List Member) (place index : ℕ) (m : Member) → place ≡ index → index ≤ length xs → length xs ≤ index → ((i : ℕ) (a : Member) → i < place → slice_get xs i ≡ Some a → IsBefore a m) → IsPlaceFor xs m place
-all_before xs place index m same le end before = record { within = omega (arith, same, le); before = before; stop = λ a at. absurd (omega (arith, same, end, slice_get_within xs place a at)) }
+  pick : (i < at) ⊎ (i ≡ at) → IsBefore a m
+  pick (inl earlier) = before-trans a other m (ascend i at a other earlier there here) less
+  pick (inr same) = subst (λ (x : Member). IsBefore x m) (some_same other a (sym here ∙ ap (slice_get xs) (sym same) ∙ there)) less
+
+-- the one at this place isn't before
+pub not_at : (xs : List Member) (at : ℕ) (m other a : Member) → at < length xs → other ≡ get_or xs at other → ¬ IsBefore other m → slice_get xs at ≡ Some a → ¬ IsBefore a m
+not_at xs at m other a lt is not there = subst (λ (x : Member). ¬ IsBefore x m) (some_same other a (ap Some is ∙ sym (slice_get-get_or xs at other lt) ∙ there)) not
+
+-- past the end none stands
+pub none_past : (xs : List Member) (at : ℕ) (m a : Member) → length xs ≤ at → slice_get xs at ≡ Some a → ¬ IsBefore a m
+none_past xs at m a end there = absurd (omega (arith, end, slice_get_within xs at a there))

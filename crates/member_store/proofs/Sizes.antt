@@ -188,11 +188,10 @@ ranks_few desc =
 pub shares_below : (desc : Desc) → shares_of desc.scheme ≤ 15
 shares_below desc = shares_few desc.scheme (five (is_number desc.which.id) (is_number desc.which.run) (is_site desc.nodes desc.ranks 0) (is_scheme desc.scheme) (is_size desc.size) desc.ranges).3
 
-pub record_short : (desc : Desc) (node : ℕ) (files : List (List FileRow)) → IsTrue (is_name desc.name) → node < 2 ^ 32 → length files ≡ desc.nodes * desc.ranks → All IsRows files → length (encoding (member_tree desc node files)) ≤ 1048576
-record_short desc node files named n ranks all =
+pub record_short : (desc : Desc) (node : ℕ) (files : List (List FileRow)) → IsTrue (is_name desc.name) → node < 2 ^ 32 → length files ≤ 64 → All IsRows files → length (encoding (member_tree desc node files)) ≤ 1048576
+record_short desc node files named n few all =
     let parts = five (is_number desc.which.id) (is_number desc.which.run) (is_site desc.nodes desc.ranks 0) (is_scheme desc.scheme) (is_size desc.size) desc.ranges in
     let site = four (is_in 1 16 desc.nodes) (is_in 1 8 desc.ranks) (nat_le 0 16) (nat_le (desc.nodes * desc.ranks) 64) parts.2 in
-    let few : desc.nodes * desc.ranks ≤ 64 = ranks_few desc in
     body_short desc node files (leb-true (length desc.name) 64 (name_short (begins_well desc.name) (nat_le (length desc.name) 64) (list_all is_name_byte desc.name) named))
     (omega (arith, upper 1 4294967295 desc.which.id parts.0)) (omega (arith, upper 1 4294967295 desc.which.run parts.1)) n (omega (arith, shares_few desc.scheme parts.3)) (omega (arith, upper 2 16 desc.size parts.4))
-    (omega (arith, upper 1 16 desc.nodes site.0)) (omega (arith, upper 1 8 desc.ranks site.1)) (omega (arith, ranks, few)) all
+    (omega (arith, upper 1 16 desc.nodes site.0)) (omega (arith, upper 1 8 desc.ranks site.1)) few all

@@ -45,9 +45,6 @@ pub fn write_member<D: Device>(
     desc: &Desc,
     files: &Filemap,
 ) -> Result<(), DevError>
-    requires which { desc.now.which ≡ which }
-    requires node { node < desc.now.nodes }
-    requires ranks { length files.now ≡ desc.now.nodes * desc.now.ranks }
     ensures { WritesMember which node desc.now files.now result (D.state dev.old) (D.state dev.new) }
 {
     let name = DeviceName::of_record(which, node);

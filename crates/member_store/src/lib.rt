@@ -21,12 +21,3 @@ pub use part::Part;
 pub use parts::{part_file_name, read_part, write_part};
 pub use removal::drop_step;
 pub use scanning::scan;
-
-#[cfg(test)]
-mod gate_tests;
-#[cfg(test)]
-mod part_tests;
-#[cfg(test)]
-mod removal_tests;
-#[cfg(test)]
-mod scan_tests;

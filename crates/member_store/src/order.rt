@@ -1,7 +1,7 @@
 //! The order of members: by identity and run, and then by node.
-ghost use Rattle.std.specs.Prelude.{◌≡◌, IsTrue, ◌↔◌, OnErr, OnOk, Err};
+ghost use Rattle.std.specs.Prelude.{◌≡◌, ◌≤◌, length, IsTrue, ◌↔◌, OnErr, OnOk, Err};
 ghost use Rattle.member_store.specs.Members.{IsBefore};
-ghost use Rattle.member_store.specs.Scanning.{IsPlaceFor, PutsMember};
+ghost use Rattle.member_store.specs.Scanning.{AreAscending, IsPlaceFor, PutsMember};
 
 use crate::Member;
 use node_device::DevError;
@@ -19,24 +19,28 @@ fn is_before(a: &Member, b: &Member) -> bool
     }
 }
 
-/// How many members from the front on are before this one.
+/// How many members are before this one, found by halving.
 fn place_for(members: &[Member], member: &Member) -> usize
-    ensures { IsPlaceFor members.now member.now result }
+    ensures within { result ≤ length members.now }
+    ensures place { AreAscending members.now → IsPlaceFor members.now member.now result }
 {
-    let mut place = 0;
-    for other in members {
-        if !is_before(other, member) {
-            return place;
+    let mut low = 0;
+    let mut high = members.len();
+    while low < high {
+        let middle = low + (high - low) / 2;
+        if is_before(&members[middle], member) {
+            low = middle + 1;
+        } else {
+            high = middle;
         }
-        place += 1;
     }
-    place
+    low
 }
 
 /// Puts a member behind those that are before it.
 pub(crate) fn put_in_order(members: &mut Vec<Member>, member: Member) -> Result<(), DevError>
     ensures memory { OnErr result (result ≡ Err DevError.Memory) }
-    ensures put { OnOk result (PutsMember members.old.items member members.new.items) }
+    ensures put { AreAscending members.old.items → OnOk result (PutsMember members.old.items member members.new.items) }
 {
     let place = place_for(members, &member);
     members.insert(place, member)?;

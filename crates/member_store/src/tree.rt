@@ -37,12 +37,12 @@ pub(crate) fn member_tree(
     Ok(tree)
 }
 
-/// Each rank's files are few and have short names, as the type of the map says of each rank.
-fn know_rows(files: &Filemap, ranks: u8)
-    requires { length files.now ≡ ranks }
-    ensures { All IsRows files.now }
+/// The ranks are few, and each rank's files are few and have short names, as the type of the map says.
+fn know_rows(files: &Filemap)
+    ensures few { length files.now ≤ 64 }
+    ensures rows { All IsRows files.now }
 {
-    for rank in 0..ranks {
+    for rank in 0..files.ranks() {
         let _rows = files.rows(rank);
     }
 }
@@ -54,11 +54,10 @@ pub(crate) fn member_body(
     desc: &Desc,
     files: &Filemap,
 ) -> Result<Bytes, Memory>
-    requires { length files.now ≡ desc.now.nodes * desc.now.ranks }
     ensures body { IfOk result (λ body. body ≡ member_body desc.now node files.now) }
     ensures short { IfOk result (λ body. length body ≤ 1048576) }
 {
-    know_rows(files, desc.nodes * desc.ranks);
+    know_rows(files);
     let _name = desc.name.bytes();
     let body = member_tree(alloc, node, desc, files)?.encode()?;
     Ok(body)

@@ -3,8 +3,12 @@ use Rattle.std.proofs.Common.{◌≡◌, ◌⊎◌, inl, inr, ◌<◌, ◌≤◌
 use Rattle.std.specs.Prelude.{slice_index, is_some}
 use Rattle.std.proofs.lemmas.List.{ext_get_or, get_or-take, length-take-le, take_all}
 use Rattle.node_device.specs.Limits.{max_end}
-use Rattle.node_device.specs.File.{MayLeave, IsAtRest, Torn, IsRemoved, bytes_of, written}
-use Rattle.node_device.specs.Changes.{is_written, older_byte}
+use Rattle.node_device.specs.File.{File, MayLeave, IsAtRest, Torn, IsRemoved, bytes_of, written}
+use Rattle.std.proofs.Math.Path.{fun_ext}
+use Rattle.std.specs.Option.{option_map}
+use Rattle.node_device.specs.Changes.{is_written, older_byte, one_wrote, byte_before_all}
+use Rattle.node_device.specs.declared.changes.Change.{Change}
+use Rattle.node_device.proofs.ChangeLists.{same_written as written_as, same_older as older_as}
 use Rattle.node_device.specs.Held.{present, mapped_from, stable_bytes, file_of, IsSoundFile, scrambled, left_by, bytes_left, there_left}
 use Rattle.node_device.specs.HeldFiles.{length-mapped_from, get_or-mapped_from, mapped_is, none_stable, stable_in_greatest, now_allowed, stable_allowed, scrambled_allowed, scrambled_there, bytes-present, length-present}
 use Rattle.node_device.specs.declared.changes.Changes.{Changes}
@@ -247,3 +251,55 @@ module _ (there was fluid : Bool) (bytes kept : List ℕ) (stable_len greatest :
   left_allowed AsRead = now_allowed there was fluid bytes kept stable_len greatest changes s
   left_allowed AsStable = stable_allowed there was fluid bytes kept stable_len greatest changes s
   left_allowed Scrambled = scrambled_allowed there was fluid bytes kept stable_len greatest changes s
+
+-- ## Notes that are taken back
+
+-- the same places are written, and the same older bytes are kept
+pub record SameChanges (old new : Changes) : Type 0 where
+  pub written : is_written new ≡ is_written old
+  pub older : older_byte new ≡ older_byte old
+
+-- what was noted is taken back
+pub back : (old noted new : Changes) → take (length old.rest.items) noted.rest.items ≡ old.rest.items → noted.first ≡ old.first → new.first ≡ noted.first → new.first_written ≡ old.first_written → new.rest.items ≡ take (length old.rest.items) noted.rest.items
+    → SameChanges old new
+back old noted new before first same_first same_written cut =
+    let rest : new.rest.items ≡ old.rest.items = cut ∙ before in
+    let first_is : new.first ≡ old.first = same_first ∙ first in
+    record {
+      written = fun_ext (λ k. written_as new old k (λ lt. ap (λ (l : List Bool). get_or l k false) same_written) (ap (λ (l : List Change). one_wrote l k) rest));
+      older = fun_ext (λ k. fun_ext (λ byte. older_as new old k byte byte (λ lt. ap (λ (l : List ℕ). slice_index l k) first_is) (λ le. ap (λ (l : List Change). byte_before_all l k byte) rest)));
+    }
+
+module _ (there was fluid : Bool) (bytes after kept : List ℕ) (stable_len greatest : ℕ) (old new : Changes) (same : SameChanges old new) (is : after ≡ bytes) where
+  stable_same : stable_bytes fluid after kept stable_len new ≡ stable_bytes fluid bytes kept stable_len old
+  stable_same = ap (λ (l : List ℕ). stable_bytes fluid l kept stable_len new) is ∙ by fluid where
+    by : (b : Bool) → stable_bytes b bytes kept stable_len new ≡ stable_bytes b bytes kept stable_len old
+    by true = refl
+    by false = ap (λ (f : ℕ → ℕ → ℕ). mapped_from f 0 (take stable_len bytes)) same.older
+
+  pub same_file : file_of there was fluid after kept stable_len greatest new ≡ file_of there was fluid bytes kept stable_len greatest old
+  same_file i = record {
+    len = option_map length (present there (is i));
+    now = present there (is i);
+    stable = present was (stable_same i);
+    touched = same.written i;
+    fluid = fluid;
+    greatest = greatest;
+  }
+
+  pub same_sound : IsSoundFile there was fluid bytes kept stable_len greatest old → IsSoundFile there was fluid after kept stable_len greatest new
+  same_sound s = subst (λ (l : List ℕ). IsSoundFile there was fluid l kept stable_len greatest new) (sym is) (record {
+    absent = s.absent;
+    was_absent = s.was_absent;
+    steady = s.steady;
+    stable_in = s.stable_in;
+    now_in = s.now_in;
+    kept_in = s.kept_in;
+    small = s.small;
+    untouched = λ k no steady. s.untouched k (sym (ap (λ (f : ℕ → Bool). f k) same.written) ∙ no) steady ∙ sym (ap (λ (f : ℕ → ℕ → ℕ). slice_index (mapped_from f 0 (take stable_len bytes)) k) same.older);
+    untouched_fluid = λ k no is_fluid. s.untouched_fluid k (sym (ap (λ (f : ℕ → Bool). f k) same.written) ∙ no) is_fluid;
+  })
+
+-- a write that changed nothing is torn nowhere
+pub torn_nowhere : (at n : ℕ) (f g : File) → g ≡ f → Torn at n f g
+torn_nowhere at n f g same = subst (λ (x : File). Torn at n f x) (sym same) (record { stable = refl; touched = λ k is. inl is; fluid = λ is. inl is; greatest = omega arith; there = λ some. some })

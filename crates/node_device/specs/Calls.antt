@@ -4,7 +4,7 @@ use Rattle.std.specs.declared.alloc.Global.{Global}
 use Rattle.node_device.specs.declared.device.DevError.{DevError}
 use Rattle.node_device.specs.File.{IsAtRest, Torn, IsRemoved, IsPartlySynced, IsEmpty, MayLeave, written, grown, bytes_of}
 use Rattle.node_device.specs.DeviceState.{DeviceState, IsUnchanged, ChangesOnly, ReadsAlike, TellsOn, used_of}
-use Rattle.node_device.specs.Answers.{HasDeviceCause, SizeAnswers, ReadAnswers, WriteAnswers, SyncAnswers, RemoveAnswers, NamesAnswers}
+use Rattle.node_device.specs.Answers.{HasDeviceCause, IsSpared, SizeAnswers, ReadAnswers, WriteAnswers, SyncAnswers, RemoveAnswers, NamesAnswers}
 
 -- the length of a file is asked
 pub record Sizes (name : List ℕ) (result : Result ℕ DevError) (old new : DeviceState) : Type 0 where
@@ -26,6 +26,7 @@ pub record Writes {T : Type 0} (name : List ℕ) (at : ℕ) (bytes : List ℕ) (
   pub now : old.tells ≡ true → OnOk result ((new.file name).now ≡ Some (written (bytes_of (old.file name).now) at bytes))
   pub torn : Torn at (length bytes) (old.file name) (new.file name)
   pub refused : OnErr result (ReadsAlike old new)
+  pub spared : IsSpared old new result
   pub only : ChangesOnly name old new
   pub cause : HasDeviceCause old new result
 

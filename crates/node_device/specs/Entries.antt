@@ -1,5 +1,5 @@
 -- The entries of the memory device, by ascending name.
-use Rattle.std.specs.Prelude.{◌≡◌, ◌||◌, ◌==◌, not, ℕ, Bool, List, [], ◌∷◌, map, get_or, sum_by, vec_len, if◌then◌else◌}
+use Rattle.std.specs.Prelude.{◌≡◌, ◌<◌, ◌≤◌, ◌⊎◌, ◌||◌, ◌==◌, not, ℕ, Bool, true, List, [], ◌∷◌, length, map, get_or, sum_by, vec_len, if◌then◌else◌}
 use Rattle.std.specs.Str.{bytes_eq}
 use Rattle.node_device.specs.File.{File, IsAtRest, MayLeave, no_file}
 use Rattle.node_device.specs.Held.{left_by, there_left}
@@ -33,6 +33,23 @@ outcome_for pick odd = if pick == 0 then AsRead else (if pick == 1 then AsStable
 abbrev pub turn_behind : Bool → List Entry → Bool
 turn_behind odd [] = odd
 turn_behind odd (e ∷ es) = turn_behind (if e.there || e.was_there then not odd else odd) es
+
+-- the file is there, and what it reads as is stable
+pub record IsSettled (e : Entry) : Type 0 where
+  pub there : e.there ≡ true
+  pub at_rest : IsAtRest (entry_file e)
+
+-- The entries outside of a range of places are settled.
+pub record AreSettledOutside (start end : ℕ) (es : List Entry) : Type 0 where
+  pub ordered : start ≤ end
+  pub inside : end ≤ length es
+  pub each : (k : ℕ) (d : Entry) → k < length es → (k < start) ⊎ (end ≤ k) → IsSettled (get_or es k d)
+
+-- what stands under a name where the entries of files that aren't there were dropped, nothing being pending
+pub record IsForgotten (f g : File) : Type 0 where
+  pub len : g.len ≡ f.len
+  pub now : g.now ≡ f.now
+  pub at_rest : IsAtRest g
 
 -- One entry after a stop: one of its outcomes, and all of that stable.
 pub record IsStopOf (outcome : Outcome) (old new : Entry) : Type 0 where

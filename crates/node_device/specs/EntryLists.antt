@@ -8,6 +8,7 @@ use Rattle.std.specs.declared.cmp.Ordering.TheVariants.{Less}
 use Rattle.std.proofs.lemmas.List.{get_or-map, map-set, length-map, set-get_or, get_or_default, length-set, get_or-set_same, get_or-set_other, length-take-le}
 use Rattle.std.proofs.lemmas.List.Sums.{sum_by-cons, sum_by-set, sum_by-insert}
 use Rattle.std.proofs.lemmas.Bool.{cases_eq}
+use Rattle.std.proofs.Math.Path.{fun_ext}
 use Rattle.std.proofs.lemmas.Slice.Eq.{bytes_eq-Decides}
 use Rattle.std.proofs.lemmas.Cmp.{nat_list_cmp_total}
 use Rattle.std.proofs.lemmas.Map.Text.{is_eq-slice_cmp}
@@ -281,6 +282,13 @@ replaced_kept es asc i lt old new old_is name kept q = elim (same_name_or_not q 
 
 pub replaced_names : (es : List Entry) (i : ℕ) (lt : i < length es) (old new : Entry) (old_is : old ≡ get_or es i old) (name : entry_name new ≡ entry_name old) → new.there ≡ old.there → names_of (set es i new) ≡ names_of es
 replaced_names es i lt old new old_is name there = names_of-set es i new (name ∙ sym (name_is es i old lt old_is)) (λ d. there ∙ ap (λ (e : Entry). e.there) (old_is ∙ get_or_default es i old d lt))
+
+-- an entry in the place of one that stands for the same file
+pub replaced_same : (es : List Entry) (asc : IsAscending (map entry_name es)) (i : ℕ) (lt : i < length es) (old new : Entry) (old_is : old ≡ get_or es i old) (name : entry_name new ≡ entry_name old) → entry_file new ≡ entry_file old → file_at (set es i new) ≡ file_at es
+replaced_same es asc i lt old new old_is name same = fun_ext (λ q. elim (same_name_or_not q (name_at es i)) [
+  | inl is ↦ subst (λ (n : List ℕ). file_at (set es i new) n ≡ file_at es n) (sym is.1) (replaced_at es asc i lt old new old_is name (λ f g. g ≡ f) same)
+  | inr away ↦ replaced_others es asc i lt old new old_is name q away.1
+])
 
 -- what follows from two facts of a refused call
 pub on_both : {T E P Q R : Type 0} (r : Result T E) → (P → Q → R) → OnErr r P → OnErr r Q → OnErr r R

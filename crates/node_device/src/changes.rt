@@ -1,5 +1,5 @@
 // What the changes of a file since the last sync wrote, and the bytes that stood there before.
-ghost use Rattle.std.specs.Prelude.{min, ◌≡◌, ◌<◌, ◌≤◌, ◌⊎◌, ◌+◌, ◌-◌, ◌&&◌, ◌||◌, ℕ, List, true, false, length, get_or, vec_len, slice_index, nat_le, nat_lt, if◌then◌else◌, OnOk, OnErr, IfOk};
+ghost use Rattle.std.specs.Prelude.{min, ◌≡◌, ◌<◌, ◌≤◌, ◌⊎◌, ◌+◌, ◌-◌, ◌&&◌, ◌||◌, ℕ, List, true, false, length, take, get_or, vec_len, slice_index, nat_le, nat_lt, if◌then◌else◌, OnOk, OnErr, IfOk};
 
 use std::alloc::{AllocError, Global};
 
@@ -19,6 +19,13 @@ pub struct Changes {
     first: [u8; 8],
     first_written: [bool; 8],
     rest: Vec<Change>,
+}
+
+/// How far the notes of changes have come.
+#[derive(Clone, Copy)]
+pub struct Notes {
+    written: [bool; 8],
+    rest: usize,
 }
 
 /// Writes bytes at a place.
@@ -128,6 +135,7 @@ impl Change {
         ensures kept { OnOk result ((k : ℕ) (byte : ℕ) → at ≤ k → k < end → k < stable_len → byte_before_all changes.new.items k byte ≡ byte_before_all changes.old.items k (slice_index bytes.now k)) }
         ensures others { (k : ℕ) (byte : ℕ) → (k < at ⊎ end ≤ k) → byte_before_all changes.new.items k byte ≡ byte_before_all changes.old.items k byte }
         ensures err { OnErr result (changes.new.items ≡ changes.old.items) }
+        ensures before { take (length changes.old.items) changes.new.items ≡ changes.old.items }
         ensures short { OnErr result (at < end) }
     {
         if end <= at {
@@ -205,11 +213,36 @@ impl Changes {
         ensures others { (k : ℕ) (byte : ℕ) → (k < at ⊎ end ≤ k) → older_byte self.new k byte ≡ older_byte self.old k byte }
         ensures err { OnErr result ((k : ℕ) → is_written self.new k ≡ is_written self.old k) }
         ensures err_older { OnErr result ((k : ℕ) (byte : ℕ) → older_byte self.new k byte ≡ older_byte self.old k byte) }
+        ensures before { take (length self.old.rest.items) self.new.rest.items ≡ self.old.rest.items }
+        ensures first { self.new.first ≡ self.old.first }
         ensures short { OnErr result (8 < end) }
     {
         Change::note(&mut self.rest, alloc, bytes, at.max(8), end, stable_len)?;
         mark(&mut self.first_written, at, end);
         Ok(())
+    }
+
+    /// How far the notes have come.
+    pub fn notes(&self) -> Notes
+        ensures written { result.written ≡ self.now.first_written }
+        ensures rest { result.rest ≡ length self.now.rest.items }
+    {
+        let written = self.first_written;
+        Notes {
+            written,
+            rest: self.rest.len(),
+        }
+    }
+
+    /// Takes back what was noted since then.
+    pub fn take_back(&mut self, notes: Notes)
+        ensures written { self.new.first_written ≡ notes.written }
+        ensures first { self.new.first ≡ self.old.first }
+        ensures rest { self.new.rest.items ≡ take notes.rest self.old.rest.items }
+    {
+        let written = notes.written;
+        self.first_written = written;
+        self.rest.truncate(notes.rest);
     }
 
     /// Puts the bytes of the last sync back.

@@ -3,7 +3,7 @@ ghost use Rattle.std.specs.Prelude.{◌≡◌, ◌<◌, ◌≤◌, ◌+◌, ℕ,
 ghost use Rattle.node_device.specs.declared.device.DevError.TheVariants.{Memory};
 ghost use Rattle.node_device.specs.File.{IsAtRest, IsKept, Torn, IsRemoved, IsPartlySynced, IsEmpty, MayLeave, written, grown, bytes_of};
 ghost use Rattle.node_device.specs.DeviceState.{DeviceState, IsDeviceName, IsUnchanged, ChangesOnly, ReadsAlike, TellsOn, IsSound, used_of};
-ghost use Rattle.node_device.specs.Answers.{HasDeviceCause, SizeAnswers, ReadAnswers, WriteAnswers, SyncAnswers, RemoveAnswers, NamesAnswers};
+ghost use Rattle.node_device.specs.Answers.{HasDeviceCause, IsSpared, SizeAnswers, ReadAnswers, WriteAnswers, SyncAnswers, RemoveAnswers, NamesAnswers};
 
 use scr_base::Bytes;
 use std::alloc::{AllocError, AllocFailed};
@@ -50,7 +50,8 @@ pub trait Device {
 
     /// Writes at a place. It makes the file where there is none, and fills a gap before the place with zeros.
     /// `Failed`; `Range` exactly where the end is past 1,073,741,824; `Full` exactly where what it adds is above 0 and
-    /// passes the capacity; `Memory`, but never for one byte at a place below 8 inside a file.
+    /// passes the capacity; `Memory`, but never for one byte at a place below 8 inside a file. Refused
+    /// without a fault it leaves the device as it was.
     fn write(&mut self, name: &[u8], at: u64, bytes: &[u8]) -> Result<(), DevError>
         requires { IsDeviceName name.now }
         ensures answer { WriteAnswers ((state self.old).file name.now) (used_of (state self.old)) (state self.old).capacity at (length bytes.now) result }
@@ -58,6 +59,7 @@ pub trait Device {
         ensures now { (state self.old).tells ≡ true → OnOk result (((state self.new).file name.now).now ≡ Some (written (bytes_of ((state self.old).file name.now).now) at bytes.now)) }
         ensures torn { Torn at (length bytes.now) ((state self.old).file name.now) ((state self.new).file name.now) }
         ensures refused { OnErr result (ReadsAlike (state self.old) (state self.new)) }
+        ensures spared { IsSpared (state self.old) (state self.new) result }
         ensures only { ChangesOnly name.now (state self.old) (state self.new) }
         ensures cause { HasDeviceCause (state self.old) (state self.new) result };
 

@@ -65,15 +65,20 @@ impl Entry {
         ensures now { OnOk result ((entry_file self.new).now ≡ Some (written (bytes_of (entry_file self.old).now) at bytes.now)) }
         ensures torn { Torn at (length bytes.now) (entry_file self.old) (entry_file self.new) }
         ensures err { OnErr result (IsKept (entry_file self.old) (entry_file self.new)) }
+        ensures spared { OnErr result (entry_file self.new ≡ entry_file self.old) }
         ensures size { OnOk result (vec_len self.new.bytes ≡ max (vec_len self.old.bytes) (at + length bytes.now)) }
         ensures size_err { OnErr result (vec_len self.new.bytes ≡ vec_len self.old.bytes) }
         ensures there { OnErr result (self.new.there ≡ self.old.there) }
         ensures short { OnErr result (8 < at + length bytes.now ⊎ length self.old.bytes.items < at + length bytes.now) }
     {
         let end = at + bytes.len();
+        let notes = self.changes.notes();
         self.changes
             .note(alloc, &self.bytes, at, end, self.stable_len)?;
-        held::put(&mut self.bytes, at, bytes)?;
+        if let Err(error) = held::put(&mut self.bytes, at, bytes) {
+            self.changes.take_back(notes);
+            return Err(error);
+        }
         self.fluid = self.fluid | !self.there;
         self.there = true;
         self.greatest = self.greatest.max(end);
@@ -170,6 +175,7 @@ impl Entry {
         ensures now { OnOk result ((entry_file self.new).now ≡ Some (written (bytes_of (entry_file self.old).now) at bytes.now)) }
         ensures torn { Torn at (length bytes.now) (entry_file self.old) (entry_file self.new) }
         ensures err { OnErr result (IsKept (entry_file self.old) (entry_file self.new)) }
+        ensures spared { OnErr result (entry_file self.new ≡ entry_file self.old) }
         ensures there { OnErr result (self.new.there ≡ self.old.there) }
         ensures no_fault { IfErr result (λ e. e ≢ DevError.Failed) }
     {

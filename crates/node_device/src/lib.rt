@@ -13,6 +13,3 @@ mod outcome;
 pub use bay::{Bay, Ran};
 pub use device::{DevError, Device};
 pub use mem::MemDevice;
-
-#[cfg(test)]
-mod tests;

@@ -1,5 +1,6 @@
 // A device in memory.
-ghost use Rattle.std.specs.Prelude.{◌≡◌, ◌≢◌, ◌<◌, ◌≤◌, ◌⊎◌, ◌+◌, ◌-◌, ◌^◌, ℕ, Bool, true, false, List, [], drop, Option, None, Some, Ok, Err, map, take, length, get_or, MatchOption, IfOk, OnOk, OnErr, IfErr, not, if◌then◌else◌};
+ghost use Rattle.std.specs.Prelude.{◌≡◌, ◌≢◌, ◌<◌, ◌≤◌, ◌⊎◌, ◌+◌, ◌-◌, ◌^◌, ℕ, Bool, true, false, List, [], drop, Option, None, Some, Ok, Err, map, take, length, max, get_or, MatchOption, IfOk, OnOk, OnErr, IfErr, not, if◌then◌else◌};
+ghost use Rattle.std.specs.List.{filter};
 ghost use Rattle.std.specs.Cmp.Lexicographic.{slice_cmp};
 ghost use Rattle.std.specs.Ordering.{nat_cmp};
 ghost use Rattle.std.specs.declared.cmp.Ordering.TheVariants.{Less};
@@ -8,7 +9,7 @@ ghost use Rattle.node_device.specs.Answers.{WriteAnswers, RemoveAnswers};
 ghost use Rattle.node_device.specs.Entry.{entry_name, entry_file};
 ghost use Rattle.node_device.specs.File.{no_file};
 ghost use Rattle.node_device.specs.DeviceState.{IsAscending};
-ghost use Rattle.node_device.specs.Entries.{name_at, file_at, names_of, used_by, outcome_for, turn_behind, IsStopOf};
+ghost use Rattle.node_device.specs.Entries.{name_at, file_at, names_of, used_by, outcome_for, turn_behind, IsStopOf, AreSettledOutside, IsForgotten};
 
 use crate::entry::Entry;
 use crate::outcome::Outcome;
@@ -17,13 +18,16 @@ use scr_base::{Bytes, Failing, Memory};
 use std::alloc::{AllocError, Global};
 use std::cmp::Ordering;
 
-/// A device in memory, which tells its contents. A write costs its bytes, a sync what was changed since the last one,
-/// beside a step for each file, and a look-up a binary search.
+/// A device in memory, which tells its contents. A write costs its bytes, a look-up a binary search, and a sync what was
+/// changed since the last one, with a step for each file whose name lies between those of changed ones.
 #[derive(Drop)]
 pub struct MemDevice {
     alloc: Global,
-    /// By ascending name. The entry of a file that was removed stays, without bytes.
+    /// By ascending name. The entry of a file that was removed stays, without bytes, until the next sync.
     entries: Vec<Entry>,
+    /// From this place up to before `end` stands all that was changed since the last sync.
+    start: usize,
+    end: usize,
     used: u64,
     capacity: u64,
     failing: Failing,
@@ -31,6 +35,7 @@ pub struct MemDevice {
     ghost counted: { used ≡ used_by entries.items },
     ghost few: { length entries.items ≤ 2 ^ 33 },
     ghost fits: { failing.faults < 2 ^ 64 },
+    ghost settled: { AreSettledOutside start end entries.items },
 }
 
 const MAX_END: u64 = 1073741824;
@@ -81,6 +86,39 @@ fn next_turn(odd: bool, known: bool) -> bool
     odd != known
 }
 
+/// The range of places with one more. It is empty where it ends at its start.
+fn widened(start: usize, end: usize, at: usize) -> (usize, usize)
+    requires { at < usize.MAX }
+    ensures start { result.0 ≤ at }
+    ensures end { at < result.1 }
+    ensures low { start < end → result.0 ≤ start }
+    ensures high { start < end → end ≤ result.1 }
+    ensures no_more { result.1 ≤ max end (at + 1) }
+{
+    if start < end {
+        (start.min(at), end.max(at + 1))
+    } else {
+        (at, at + 1)
+    }
+}
+
+/// The range of places when one more is put in among them, with that one.
+fn opened(start: usize, end: usize, at: usize) -> (usize, usize)
+    requires at { at < usize.MAX }
+    requires end { end < usize.MAX }
+    ensures start { result.0 ≤ at }
+    ensures end { at < result.1 }
+    ensures low { start < end → result.0 ≤ start }
+    ensures high { start < end → end < result.1 }
+    ensures no_more { result.1 ≤ max end at + 1 }
+{
+    if start < end {
+        (start.min(at), end.max(at) + 1)
+    } else {
+        (at, at + 1)
+    }
+}
+
 /// Stops each file.
 fn stop_each(entries: &mut [Entry], alloc: Global, pick: u8)
     ensures { (k : ℕ) (d : Entry) → k < length entries.old → IsStopOf (outcome_for pick (turn_behind true (take k entries.old))) (get_or entries.old k d) (get_or entries.new k d) }
@@ -98,6 +136,40 @@ fn stop_entries(entries: &mut Vec<Entry>, alloc: Global, pick: u8)
     ensures each { (k : ℕ) (d : Entry) → k < length entries.old.items → IsStopOf (outcome_for pick (turn_behind true (take k entries.old.items))) (get_or entries.old.items k d) (get_or entries.new.items k d) }
 {
     stop_each(entries, alloc, pick);
+}
+
+/// Makes stable what the files of a range read as, where all others are so already.
+fn settle_range(entries: &mut Vec<Entry>, alloc: Global, start: usize, end: usize)
+    requires { AreSettledOutside start end entries.old.items }
+    ensures len { length entries.new.items ≡ length entries.old.items }
+    ensures each { (k : ℕ) (d : Entry) → k < length entries.old.items → IsStopOf Outcome.AsRead (get_or entries.old.items k d) (get_or entries.new.items k d) }
+    ensures outside { AreSettledOutside start end entries.new.items }
+{
+    for i in start..end {
+        entries[i].stop(alloc, Outcome::AsRead);
+    }
+}
+
+/// Are these files all there?
+fn are_there(entries: &[Entry]) -> bool
+    ensures { result ≡ true → (k : ℕ) (d : Entry) → k < length entries.now → (get_or entries.now k d).there ≡ true }
+{
+    for entry in entries {
+        if !entry.there {
+            return false;
+        }
+    }
+    true
+}
+
+/// Drops the entries of files that aren't there, all of which stand in a range.
+fn drop_absent(entries: &mut Vec<Entry>, start: usize, end: usize)
+    requires { AreSettledOutside start end entries.old.items }
+    ensures { entries.new.items ≡ filter (λ e. e.there) entries.old.items }
+{
+    if !are_there(&entries[start..end]) {
+        entries.retain(|entry| entry.there);
+    }
 }
 
 fn list_names(alloc: Global, entries: &[Entry]) -> Result<Vec<Bytes>, AllocError>
@@ -155,6 +227,8 @@ impl MemDevice {
         Ok(MemDevice {
             alloc,
             entries: Vec::new(alloc),
+            start: 0,
+            end: 0,
             used: 0,
             capacity,
             failing: Failing::new(fail),
@@ -198,6 +272,7 @@ impl MemDevice {
         ensures now { OnOk result (((mem_state self.new).file (name_at self.old.entries.items i)).now ≡ Some (written (bytes_of ((mem_state self.old).file (name_at self.old.entries.items i)).now) at bytes.now)) }
         ensures torn { Torn at (length bytes.now) ((mem_state self.old).file (name_at self.old.entries.items i)) ((mem_state self.new).file (name_at self.old.entries.items i)) }
         ensures refused { OnErr result (ReadsAlike (mem_state self.old) (mem_state self.new)) }
+        ensures spared { OnErr result (mem_state self.new ≡ mem_state self.old) }
         ensures only { ChangesOnly (name_at self.old.entries.items i) (mem_state self.old) (mem_state self.new) }
         ensures failing { self.new.failing ≡ self.old.failing }
         ensures no_fault { IfErr result (λ e. e ≢ DevError.Failed) }
@@ -206,6 +281,9 @@ impl MemDevice {
         let before = self.entries[i].len();
         let result = self.entries[i].write(self.alloc, used, self.capacity, at, bytes);
         self.used = used - before + self.entries[i].len();
+        let range = widened(self.start, self.end, i);
+        self.start = range.0;
+        self.end = range.1;
         result
     }
 
@@ -222,6 +300,7 @@ impl MemDevice {
         ensures now { OnOk result (((mem_state self.new).file name.now).now ≡ Some (written (bytes_of ((mem_state self.old).file name.now).now) at bytes.now)) }
         ensures torn { Torn at (length bytes.now) ((mem_state self.old).file name.now) ((mem_state self.new).file name.now) }
         ensures refused { OnErr result (ReadsAlike (mem_state self.old) (mem_state self.new)) }
+        ensures spared { OnErr result (mem_state self.new ≡ mem_state self.old) }
         ensures only { ChangesOnly name.now (mem_state self.old) (mem_state self.new) }
         ensures failing { self.new.failing ≡ self.old.failing }
         ensures no_fault { IfErr result (λ e. e ≢ DevError.Failed) }
@@ -233,6 +312,9 @@ impl MemDevice {
         let added = entry.len();
         self.entries.insert(i, entry)?;
         self.used = used + added;
+        let range = opened(self.start, self.end, i);
+        self.start = range.0;
+        self.end = range.1;
         Ok(())
     }
 
@@ -251,6 +333,9 @@ impl MemDevice {
         }
         self.used -= self.entries[i].len();
         self.entries[i].remove(self.alloc);
+        let range = widened(self.start, self.end, i);
+        self.start = range.0;
+        self.end = range.1;
         Ok(())
     }
 
@@ -264,6 +349,31 @@ impl MemDevice {
     {
         stop_entries(&mut self.entries, self.alloc, pick);
         self.used = sum_of_lens(&self.entries);
+        self.start = 0;
+        self.end = self.entries.len();
+    }
+
+    /// Makes stable what each file reads as.
+    fn rest(&mut self)
+        ensures len { length self.new.entries.items ≡ length self.old.entries.items }
+        ensures each { (k : ℕ) (d : Entry) → k < length self.old.entries.items → IsStopOf Outcome.AsRead (get_or self.old.entries.items k d) (get_or self.new.entries.items k d) }
+        ensures failing { self.new.failing ≡ self.old.failing }
+        ensures capacity { self.new.capacity ≡ self.old.capacity }
+    {
+        settle_range(&mut self.entries, self.alloc, self.start, self.end);
+    }
+
+    /// Forgets the files that aren't there, where nothing is pending.
+    fn forget(&mut self)
+        requires { (k : ℕ) (d : Entry) → k < length self.old.entries.items → IsAtRest (entry_file (get_or self.old.entries.items k d)) }
+        ensures names { (mem_state self.new).names ≡ (mem_state self.old).names }
+        ensures files { (q : List ℕ) → IsForgotten ((mem_state self.old).file q) ((mem_state self.new).file q) }
+        ensures failing { self.new.failing ≡ self.old.failing }
+        ensures capacity { self.new.capacity ≡ self.old.capacity }
+    {
+        drop_absent(&mut self.entries, self.start, self.end);
+        self.start = 0;
+        self.end = 0;
     }
 
     /// Makes all that a read gives stable.
@@ -273,7 +383,8 @@ impl MemDevice {
         ensures partly { (q : List ℕ) → IsPartlySynced ((mem_state self.old).file q) ((mem_state self.new).file q) }
         ensures failing { self.new.failing ≡ self.old.failing }
     {
-        self.leave(0);
+        self.rest();
+        self.forget();
     }
 
     fn find_place(&self, name: &[u8]) -> Result<usize, usize>
@@ -300,7 +411,7 @@ impl Device for MemDevice {
     ghost use Rattle.node_device.specs.Picks.{IsPicked};
     ghost use Rattle.node_device.specs.File.{IsAtRest, Torn, IsRemoved, IsPartlySynced, IsEmpty, MayLeave, written, grown, bytes_of};
     ghost use Rattle.node_device.specs.DeviceState.{IsDeviceName, IsUnchanged, ChangesOnly, ReadsAlike, TellsOn, used_of};
-    ghost use Rattle.node_device.specs.Answers.{HasDeviceCause, SizeAnswers, ReadAnswers, WriteAnswers, SyncAnswers, RemoveAnswers, NamesAnswers};
+    ghost use Rattle.node_device.specs.Answers.{HasDeviceCause, IsSpared, SizeAnswers, ReadAnswers, WriteAnswers, SyncAnswers, RemoveAnswers, NamesAnswers};
 
     ghost state = { mem_state };
 
@@ -346,6 +457,7 @@ impl Device for MemDevice {
         ensures now { (mem_state self.old).tells ≡ true → OnOk result (((mem_state self.new).file name.now).now ≡ Some (written (bytes_of ((mem_state self.old).file name.now).now) at bytes.now)) }
         ensures torn { Torn at (length bytes.now) ((mem_state self.old).file name.now) ((mem_state self.new).file name.now) }
         ensures refused { OnErr result (ReadsAlike (mem_state self.old) (mem_state self.new)) }
+        ensures spared { IsSpared (mem_state self.old) (mem_state self.new) result }
         ensures only { ChangesOnly name.now (mem_state self.old) (mem_state self.new) }
         ensures cause { HasDeviceCause (mem_state self.old) (mem_state self.new) result }
         ensures listed { FailsIfListed self.old result }
@@ -427,6 +539,7 @@ impl Device for MemDevice {
         ensures no_fault { (mem_state self.new).faults ≡ (mem_state self.old).faults }
     {
         self.leave(pick);
+        self.forget();
     }
 
     fn wipe(&mut self)
@@ -438,6 +551,8 @@ impl Device for MemDevice {
         ensures no_fault { (mem_state self.new).faults ≡ (mem_state self.old).faults }
     {
         self.entries.clear();
+        self.start = 0;
+        self.end = 0;
         self.used = 0;
     }
 }

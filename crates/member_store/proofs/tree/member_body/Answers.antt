@@ -13,4 +13,4 @@ unfolding member_body
 returns-clause-body c = c.in_ok-body.ensures.spelled ∙ ap encoding c.in_ok-member_tree.ensures
 
 pub returns-clause-short : goal.returns-clause-short
-returns-clause-short c = subst (λ (l : List ℕ). length l ≤ 1048576) (sym (c.in_ok-body.ensures.spelled ∙ ap encoding c.in_ok-member_tree.ensures)) (record_short c.args.desc.now c.args.node c.args.files.now c.bytes-name.ensures.name (omega arith) c.requires c.know_rows.ensures)
+returns-clause-short c = subst (λ (l : List ℕ). length l ≤ 1048576) (sym (c.in_ok-body.ensures.spelled ∙ ap encoding c.in_ok-member_tree.ensures)) (record_short c.args.desc.now c.args.node c.args.files.now c.bytes-name.ensures.name (omega arith) c.know_rows.ensures.few c.know_rows.ensures.rows)

@@ -10,6 +10,7 @@ returns g c =
       now = c.write.ensures.now;
       torn = c.write.ensures.torn;
       refused = c.write.ensures.refused;
+      spared = c.write.ensures.spared;
       only = c.write.ensures.only;
       cause = c.write.ensures.cause;
     } in

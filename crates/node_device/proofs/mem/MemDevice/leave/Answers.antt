@@ -2,6 +2,7 @@ use Rattle.std.proofs.Common.{List, sym, ◌∙◌, ap, subst, arith, ◌<◌, �
 use Rattle.node_device.specs.Entries.{used_by}
 use Rattle.node_device.specs.declared.entry.Entry.{Entry}
 use Rattle.node_device.specs.EntryLists.{each_ascending, lens_fit}
+use Rattle.node_device.proofs.Windows.{all_within}
 use Rattle.node_device.proofs.mem.MemDevice.leave.Goals as goal
 
 pub sum_of_lens-self-requires : goal.sum_of_lens-self-requires
@@ -16,4 +17,5 @@ invariant_of-self c =
       counted = c.sum_of_lens-self.ensures ∙ ap (λ (l : List Entry). used_by l) c.deref.ensures.value;
       few = omega (arith, d.few, s.len);
       fits = d.fits;
+      settled = all_within c.stop_entries.new.entries.items c.len-self.result (c.len-self.ensures ∙ c.stop_entries.new.entries.ok.0);
     }

@@ -6,6 +6,7 @@ use Rattle.node_device.specs.File.{File, IsRemoved}
 use Rattle.node_device.specs.Held.{present}
 use Rattle.node_device.specs.EntryLists.{replaced_ascending, replaced_at, replaced_others, replaced_used, file_at_is}
 use Rattle.node_device.proofs.Places.{same_entry}
+use Rattle.node_device.proofs.Windows.{settled_set}
 use Rattle.node_device.proofs.mem.MemDevice.remove_entry.Goals as goal
 
 pub returns-then-not-index-clause-answer : goal.returns-then-not-index-clause-answer
@@ -37,6 +38,7 @@ invariant_of-self c =
       );
       few = omega (arith, d.few, length-set es c.args.i e);
       fits = d.fits;
+      settled = settled_set d.start d.end c.widened-range.result.0 c.widened-range.result.1 c.args.i es e d.settled c.requires c.widened-range.ensures.start c.widened-range.ensures.end c.widened-range.ensures.low c.widened-range.ensures.high c.widened-range.ensures.no_more;
     }
 
 pub returns-clause-removed : goal.returns-clause-removed

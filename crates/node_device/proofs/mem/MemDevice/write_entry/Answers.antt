@@ -1,4 +1,4 @@
-use Rattle.std.proofs.Common.{◌≡◌, ℕ, Some, length, set, refl, subst, arith}
+use Rattle.std.proofs.Common.{◌≡◌, ℕ, true, Some, length, set, refl, subst, arith}
 use Rattle.std.specs.Prelude.{OnOk}
 use Rattle.std.proofs.lemmas.List.{length-set}
 use Rattle.node_device.specs.File.{Torn, grown, written, bytes_of}
@@ -6,8 +6,9 @@ use Rattle.node_device.specs.DeviceState.{used_of}
 use Rattle.node_device.specs.MemState.{mem_state}
 use Rattle.node_device.specs.Entry.{entry_file}
 use Rattle.node_device.specs.Answers.{WriteAnswers}
-use Rattle.node_device.specs.EntryLists.{replaced_ascending, replaced_at, replaced_others, replaced_used, replaced_kept, replaced_names, on_both, used_is, lens_fit}
+use Rattle.node_device.specs.EntryLists.{replaced_ascending, replaced_at, replaced_others, replaced_used, replaced_kept, replaced_names, replaced_same, on_both, used_is, lens_fit}
 use Rattle.node_device.proofs.Places.{same_entry, put_entry, len_in}
+use Rattle.node_device.proofs.Windows.{settled_set}
 use Rattle.node_device.proofs.mem.MemDevice.write_entry.Goals as goal
 
 pub overflow_sub-self : goal.overflow_sub-self
@@ -52,6 +53,7 @@ invariant_of-self c =
       );
       few = omega (arith, d.few, length-set es c.args.i e);
       fits = d.fits;
+      settled = settled_set d.start d.end c.widened-range.result.0 c.widened-range.result.1 c.args.i es e d.settled c.requires.i c.widened-range.ensures.start c.widened-range.ensures.end c.widened-range.ensures.low c.widened-range.ensures.high c.widened-range.ensures.no_more;
     }
 
 pub returns-clause-answer : goal.returns-clause-answer
@@ -98,3 +100,17 @@ returns-clause-refused c =
       files = replaced_kept d.entries.items d.ascending c.args.i c.requires.i c.index_mut.result.now c.write-result.new.self c.index_mut.ensures.value c.write-result.ensures.name kept;
     })
     c.write-result.ensures.err c.write-result.ensures.there
+
+pub returns-clause-spared : goal.returns-clause-spared
+returns-clause-spared c =
+    let d = c.args.self.now in
+    let es = d.entries.items in
+    on_both c.write-result.result
+    (λ same there i. record {
+      tells = true;
+      file = replaced_same es d.ascending c.args.i c.requires.i c.index_mut.result.now c.write-result.new.self c.index_mut.ensures.value c.write-result.ensures.name same i;
+      names = replaced_names es c.args.i c.requires.i c.index_mut.result.now c.write-result.new.self c.index_mut.ensures.value c.write-result.ensures.name there i;
+      capacity = d.capacity;
+      faults = d.failing.faults;
+    })
+    c.write-result.ensures.spared c.write-result.ensures.there

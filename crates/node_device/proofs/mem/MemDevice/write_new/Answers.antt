@@ -2,9 +2,10 @@ use Rattle.std.proofs.Common.{◌≡◌, ◌≤◌, ◌^◌, ℕ, List, Option, 
 use Rattle.node_device.specs.File.{Torn, grown, written, bytes_of}
 use Rattle.node_device.specs.DeviceState.{IsAscending}
 use Rattle.node_device.specs.Entry.{entry_name, entry_file}
-use Rattle.node_device.specs.Entries.{used_by}
+use Rattle.node_device.specs.Entries.{used_by, AreSettledOutside}
 use Rattle.node_device.specs.declared.entry.Entry.{Entry}
 use Rattle.node_device.specs.EntryLists.{inserted_at, inserted_others, inserted_ascending, inserted_used, inserted_length, torn_first, used_is}
+use Rattle.node_device.proofs.Windows.{settled_inserted}
 use Rattle.node_device.proofs.mem.MemDevice.write_new.Goals as goal
 
 pub invariant_of-self : goal.invariant_of-self
@@ -16,6 +17,7 @@ invariant_of-self c =
       counted = d.counted ∙ ap (λ (l : List Entry). used_by l) same;
       few = subst (λ (l : List Entry). length l ≤ 2 ^ 33) same d.few;
       fits = d.fits;
+      settled = subst (λ (l : List Entry). AreSettledOutside d.start d.end l) same d.settled;
     }
 
 pub invariant_of-self-2 : goal.invariant_of-self-2
@@ -29,6 +31,9 @@ invariant_of-self-2 c =
       counted = omega (arith, c.used_now-used.ensures, used_is es d.ascending, c.len-added.ensures, inserted_used es c.args.i c.requires.i c.args.name.now e name c.requires.before c.insert.new.self.items c.in_ok-insert.ensures.items);
       few = omega (arith, c.in_ok-check_new.ensures.count, c.len.ensures, d.entries.ok.0, inserted_length es c.args.i c.requires.i c.args.name.now e name c.requires.before c.insert.new.self.items c.in_ok-insert.ensures.items);
       fits = d.fits;
+      settled = settled_inserted d.start d.end c.opened-range.result.0 c.opened-range.result.1 c.args.i es e c.insert.new.self.items c.in_ok-insert.ensures.items
+          (inserted_length es c.args.i c.requires.i c.args.name.now e name c.requires.before c.insert.new.self.items c.in_ok-insert.ensures.items) d.settled c.requires.i
+          c.opened-range.ensures.start c.opened-range.ensures.end c.opened-range.ensures.low c.opened-range.ensures.high c.opened-range.ensures.no_more;
     }
 
 pub returns-clause-len : goal.returns-clause-len
