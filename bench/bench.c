@@ -1,7 +1,8 @@
 /* Times the codes beside their peers, in turns in one process, and compares what they give byte for byte.
-   usage: bench SECONDS [all]   (without `all` only segments of 4 KiB) */
+   usage: bench SECONDS [all|kept]   (else only segments of 4 KiB; `kept`: the C library keeps the memory that is given back) */
 #define _GNU_SOURCE
 #include <dlfcn.h>
+#include <malloc.h>
 #include <stdint.h>
 #include <stdio.h>
 #include <stdlib.h>
@@ -22,10 +23,10 @@ typedef uint8_t u8;
 /* ---- ours: a slice is a pointer and a length */
 void codes_bench_xor_into(u8 *, size_t, const u8 *, size_t);
 void codes_bench_mul_add_into(u8 *, size_t, const u8 *, size_t, u8);
-_Bool codes_bench_encode_xor(u8, const u8 *, size_t, size_t, u8 *, size_t, size_t);
-_Bool codes_bench_encode_rs(u8, u8, const u8 *, size_t, size_t, u8 *, size_t, size_t);
-_Bool codes_bench_recover_xor(u8, u8, const u8 *, size_t, uint32_t, u8 *, size_t, size_t);
-_Bool codes_bench_recover_rs(u8, u8, u8, const u8 *, size_t, uint32_t, u8 *, size_t, size_t);
+_Bool codes_bench_encode_xor(u8, const u8 *, size_t, size_t, _Bool, u8 *, size_t, size_t);
+_Bool codes_bench_encode_rs(u8, u8, const u8 *, size_t, size_t, _Bool, u8 *, size_t, size_t);
+_Bool codes_bench_recover_xor(u8, u8, const u8 *, size_t, uint32_t, _Bool, u8 *, size_t, size_t);
+_Bool codes_bench_recover_rs(u8, u8, u8, const u8 *, size_t, uint32_t, _Bool, u8 *, size_t, size_t);
 
 /* ---- plain loops */
 void plain_xor_o2(u8 *, const u8 *, size_t);
@@ -166,12 +167,14 @@ static double median(int i) {
     return row[i].times[row[i].rounds / 2];
 }
 
-/* the first contender is ours */
-static void show(const char *title, double bytes) {
-    double ours = median(0);
-    printf("%s: ours %.0f ns/KiB, %d rounds; ours over", title, ours / bytes * 1024, row[0].rounds);
-    for (int i = 1; i < contenders; i++) printf("%s %s %.2f", i > 1 ? "," : "", row[i].name, ours / median(i));
-    printf("\n");
+/* a line for each of the first contenders, which are ours, over the others */
+static void show(const char *title, double bytes, int ours) {
+    for (int own = 0; own < ours; own++) {
+        double time = median(own);
+        printf("%s: %s %.0f ns/KiB, %d rounds; over", title, row[own].name, time / bytes * 1024, row[own].rounds);
+        for (int i = ours; i < contenders; i++) printf("%s %s %.2f", i > ours ? "," : "", row[i].name, time / median(i));
+        printf("\n");
+    }
     fflush(stdout);
     contenders = 0;
 }
@@ -187,13 +190,13 @@ static void show(const char *title, double bytes) {
     } while (0)
 
 /* ours makes its streams first: the time of no rounds is taken off */
-#define TIME_OURS(name, reps, call_with)                        \
+#define TIME_OURS(name, reps, call_with, whole)                 \
     do {                                                        \
         double start = now();                                   \
-        done(name, call_with(0));                               \
+        done(name, call_with(0, whole));                        \
         double setup = now() - start;                           \
         start = now();                                          \
-        done(name, call_with(reps));                            \
+        done(name, call_with(reps, whole));                     \
         took(name, (now() - start - setup) / (reps));           \
     } while (0)
 
@@ -254,7 +257,7 @@ static void kernels(size_t len, double seconds) {
 #endif
     double end = wall() + seconds / 2;
     for (int r = 0; r < ROUNDS && (r < 3 || wall() < end); r++) {
-        TIME("ours", reps, codes_bench_xor_into(dst, len, src, len));
+        TIME("xor_into", reps, codes_bench_xor_into(dst, len, src, len));
         TIME("memcpy", reps, memcpy(dst, src, len));
         TIME("gcc -O2", reps, plain_xor_o2(dst, src, len));
         TIME("gcc -O3 native", reps, plain_xor_o3(dst, src, len));
@@ -266,11 +269,11 @@ static void kernels(size_t len, double seconds) {
         TIME("jerasure", reps, galois_region_xor((char *)src, (char *)dst, len));
 #endif
     }
-    snprintf(title, sizeof title, "xor_into, %zu bytes", len);
-    show(title, len);
+    snprintf(title, sizeof title, "%zu bytes", len);
+    show(title, len, 1);
     end = wall() + seconds / 2;
     for (int r = 0; r < ROUNDS && (r < 3 || wall() < end); r++) {
-        TIME("ours", reps, codes_bench_mul_add_into(dst, len, src, len, c));
+        TIME("mul_add_into", reps, codes_bench_mul_add_into(dst, len, src, len, c));
         TIME("memcpy", reps, memcpy(dst, src, len));
         TIME("gcc -O2 table", reps / 4 + 1, plain_mul_add_o2(dst, src, len, product[c]));
         TIME("gcc -O3 native table", reps / 4 + 1, plain_mul_add_o3(dst, src, len, product[c]));
@@ -282,8 +285,7 @@ static void kernels(size_t len, double seconds) {
         TIME("jerasure", reps, gf.multiply_region.w32(&gf, src, dst, c, len, 1));
 #endif
     }
-    snprintf(title, sizeof title, "mul_add_into, %zu bytes", len);
-    show(title, len);
+    show(title, len, 1);
 }
 
 /* ---- sets: n members, k parity segments a stripe, segments of c bytes; k is 1 for XOR */
@@ -299,16 +301,18 @@ static u8 *segment(u8 *data, u8 *shares, int n, int k, size_t c, int stripe, int
                                             : data + (member * (size_t)(n - k) + stripe - parity) * c;
 }
 
-static _Bool encode(int xor, int n, int k, const u8 *data, size_t c, u8 *shares, size_t reps) {
+/* by member_of, or else by share_of */
+static _Bool encode(int xor, int n, int k, const u8 *data, size_t c, _Bool whole, u8 *shares, size_t reps) {
     size_t len = (n - k) * c, all = n * k * c;
-    return xor ? codes_bench_encode_xor(n, data, n * len, len, shares, all, reps)
-               : codes_bench_encode_rs(n, k, data, n * len, len, shares, all, reps);
+    return xor ? codes_bench_encode_xor(n, data, n * len, len, whole, shares, all, reps)
+               : codes_bench_encode_rs(n, k, data, n * len, len, whole, shares, all, reps);
 }
 
-static _Bool recover(int xor, int n, int k, const u8 *data, size_t c, u8 *back, size_t reps) {
+/* by recover, or else by recover_one of each lost member */
+static _Bool recover(int xor, int n, int k, const u8 *data, size_t c, _Bool whole, u8 *back, size_t reps) {
     size_t len = (n - k) * c;
-    return xor ? codes_bench_recover_xor(n, k, data, n * len, len, back, n * len, reps)
-               : codes_bench_recover_rs(n, k, k, data, n * len, len, back, n * len, reps);
+    return xor ? codes_bench_recover_xor(n, k, data, n * len, len, whole, back, n * len, reps)
+               : codes_bench_recover_rs(n, k, k, data, n * len, len, whole, back, n * len, reps);
 }
 
 /* the shares by plain loops, and by ISA-L with the same factors */
@@ -317,7 +321,7 @@ static void compare_sets(int xor, int n, int k, size_t c) {
     size_t data_len = (size_t)n * m * c, all = (size_t)n * k * c;
     u8 *data = room(data_len), *shares = room(all), *plain = room(all), *back = room(data_len);
     noise(data, data_len, n * 16 + k);
-    done("encode", encode(xor, n, k, data, c, shares, 1));
+    done("member_of", encode(xor, n, k, data, c, 1, shares, 1));
     for (int s = 0; s < n; s++) {
         int places[16];
         u8 *from[16], *to[16], rows[256], tables[32 * 256];
@@ -348,9 +352,15 @@ static void compare_sets(int xor, int n, int k, size_t c) {
         for (int j = 0; j < k; j++)
             for (int i = 0; i < m; i++) plain_mul_add_o2(to[j], from[i], c, product[rows[j * m + i]]);
     }
-    same("shares and the plain loops", shares, plain, all);
-    done("recover", recover(xor, n, k, data, c, back, 1));
+    same("shares of member_of and the plain loops", shares, plain, all);
+    memset(shares, 0, all);
+    done("share_of", encode(xor, n, k, data, c, 0, shares, 1));
+    same("shares of share_of and the plain loops", shares, plain, all);
+    done("recover", recover(xor, n, k, data, c, 1, back, 1));
     same("streams and what recover gives", back, data, data_len);
+    memset(back, 0, data_len);
+    done("recover_one", recover(xor, n, k, data, c, 0, back, 1));
+    same("streams and what recover_one gives", back, data, k * m * c);
     if (zfec_new) {
         fec *z = zfec_new(m, n);
         u8 *out[16];
@@ -387,8 +397,8 @@ static void sets(int xor, int n, int k, size_t c, double seconds) {
     }
     long reps = (1 << 20) / (double)data_len + 1;
     char title[96];
-#define ENCODE(r) encode(xor, n, k, data, c, shares, r)
-#define RECOVER(r) recover(xor, n, k, data, c, back, r)
+#define ENCODE(r, whole) encode(xor, n, k, data, c, whole, shares, r)
+#define RECOVER(r, whole) recover(xor, n, k, data, c, whole, back, r)
 #define STRIPES(count, call) for (int t = 0; t < (count); t++) { int s = t % n; u8 **d = D[s], **p = P[s]; (void)d; (void)p; call; }
 #ifdef HAVE_ISAL
     u8 *A = malloc(n * m), *B = malloc(m * m), *I = malloc(m * m), *T = malloc(32 * m * n);
@@ -403,7 +413,8 @@ static void sets(int xor, int n, int k, size_t c, double seconds) {
     for (int j = 0; j < k; j++) blocks[j] = m + j;
     double end = wall() + seconds / 2;
     for (int r = 0; r < ROUNDS && (r < 3 || wall() < end); r++) {
-        TIME_OURS("ours", reps, ENCODE);
+        TIME_OURS("member_of", reps, ENCODE, 1);
+        TIME_OURS("share_of", reps, ENCODE, 0);
         TIME("memcpy of the data", reps, memcpy(back, data, data_len));
         if (xor) {
 #ifdef HAVE_ISAL
@@ -426,7 +437,7 @@ static void sets(int xor, int n, int k, size_t c, double seconds) {
         }
     }
     snprintf(title, sizeof title, "%s encode n=%d k=%d, segments of %zu bytes", xor ? "XOR" : "RS", n, k, c);
-    show(title, data_len);
+    show(title, data_len, 2);
     /* k members lost: k * m data segments are rebuilt, by the peers k (at most m) of each of so many stripes */
     int stripes = (k * m + lost - 1) / lost;
 #ifdef HAVE_JERASURE
@@ -437,7 +448,8 @@ static void sets(int xor, int n, int k, size_t c, double seconds) {
 #define DECODE(with) memcpy(B, A + lost * m, m * m); gf_invert_matrix(B, I, m); ec_init_tables(m, lost, I, T); with(c, m, lost, T, from, d)
     end = wall() + seconds / 2;
     for (int r = 0; r < ROUNDS && (r < 3 || wall() < end); r++) {
-        TIME_OURS("ours", reps, RECOVER);
+        TIME_OURS("recover", reps, RECOVER, 1);
+        TIME_OURS("recover_one", reps, RECOVER, 0);
         TIME("memcpy of what is rebuilt", reps, memcpy(back, data, (size_t)k * m * c));
         if (xor) {
 #ifdef HAVE_ISAL
@@ -466,12 +478,17 @@ static void sets(int xor, int n, int k, size_t c, double seconds) {
         }
     }
     snprintf(title, sizeof title, "%s recover n=%d k=%d, segments of %zu bytes, %d lost", xor ? "XOR" : "RS", n, k, c, k);
-    show(title, (double)k * m * c);
+    show(title, (double)k * m * c, 2);
 }
 
 int main(int count, char **words) {
     double seconds = count > 1 ? atof(words[1]) : 1;
-    int all = count > 2 && !strcmp(words[2], "all");
+    int kept = count > 2 && !strcmp(words[2], "kept"), all = kept || (count > 2 && !strcmp(words[2], "all"));
+    if (kept) {
+        mallopt(M_MMAP_MAX, 0);
+        mallopt(M_TRIM_THRESHOLD, 1 << 30);
+        mallopt(M_TOP_PAD, 64 << 20);
+    }
     static const struct { int xor, n, k; } SETS[] = {{1, 4, 1}, {1, 8, 1}, {0, 4, 2}, {0, 8, 2}, {0, 16, 4}};
     int set_count = sizeof SETS / sizeof *SETS;
     make_tables();

@@ -27,20 +27,22 @@ pub extern "C" fn codes_bench_mul_add_into(dst: &mut [u8], src: &[u8], c: u8)
     lane_kernels::mul_add_into(dst, src, c)
 }
 
-/// What `member_of` gives each of n members by XOR, whose streams of `len` bytes stand in `data` one behind the other.
-/// The shares of the last time go into `shares`. False where there is no memory.
+/// What each of n members keeps by XOR, whose streams of `len` bytes stand in `data` one behind the other: with `whole`
+/// by `member_of`, which copies its stream too, else by `share_of`. The shares of the last time go into `shares`. False
+/// where there is no memory.
 #[unsafe(no_mangle)]
 pub extern "C" fn codes_bench_encode_xor(
     alloc: Global,
     n: u8,
     data: &[u8],
     len: usize,
+    whole: bool,
     shares: &mut [u8],
     reps: usize,
 ) -> bool
     requires { IsSet Xor n }
 {
-    encode(alloc, Scheme::Xor, n, data, len, shares, reps).is_ok()
+    encode(alloc, Scheme::Xor, n, data, len, whole, shares, reps).is_ok()
 }
 
 /// The same by Reed-Solomon with k parity segments.
@@ -51,16 +53,28 @@ pub extern "C" fn codes_bench_encode_rs(
     k: u8,
     data: &[u8],
     len: usize,
+    whole: bool,
     shares: &mut [u8],
     reps: usize,
 ) -> bool
     requires { IsSet (Rs k) n }
 {
-    encode(alloc, Scheme::Rs { shares: k }, n, data, len, shares, reps).is_ok()
+    encode(
+        alloc,
+        Scheme::Rs { shares: k },
+        n,
+        data,
+        len,
+        whole,
+        shares,
+        reps,
+    )
+    .is_ok()
 }
 
-/// What `recover` gives by XOR where the first `lost` of n members are lost, whose streams of `len` bytes stand in
-/// `data`. Those of the last time go into `back`. False where there is no memory, or the loss isn't borne.
+/// The streams by XOR where the first `lost` of n members are lost, whose streams of `len` bytes stand in `data`: with
+/// `whole` all, by `recover`, else the lost ones, each by `recover_one`. Those of the last time go into `back`. False
+/// where there is no memory, or the loss isn't borne.
 #[unsafe(no_mangle)]
 pub extern "C" fn codes_bench_recover_xor(
     alloc: Global,
@@ -68,12 +82,13 @@ pub extern "C" fn codes_bench_recover_xor(
     lost: u8,
     data: &[u8],
     len: u32,
+    whole: bool,
     back: &mut [u8],
     reps: usize,
 ) -> bool
     requires { IsSet Xor n }
 {
-    recover_all(alloc, Scheme::Xor, n, lost, data, len, back, reps).is_ok()
+    recover_all(alloc, Scheme::Xor, n, lost, data, len, whole, back, reps).is_ok()
 }
 
 /// The same by Reed-Solomon with k parity segments.
@@ -85,6 +100,7 @@ pub extern "C" fn codes_bench_recover_rs(
     lost: u8,
     data: &[u8],
     len: u32,
+    whole: bool,
     back: &mut [u8],
     reps: usize,
 ) -> bool
@@ -97,6 +113,7 @@ pub extern "C" fn codes_bench_recover_rs(
         lost,
         data,
         len,
+        whole,
         back,
         reps,
     )

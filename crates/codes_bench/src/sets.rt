@@ -1,17 +1,18 @@
 ghost use Rattle.std.specs.Prelude.{◌≡◌, ◌<◌, ◌≤◌, length, vec_len, IfOk};
 ghost use Rattle.member_shares.specs.Shares.{IsSet};
 
-use redundancy_set::{Held, RecoverError, member_of, recover};
+use redundancy_set::{Held, RecoverError, member_of, recover, recover_one, share_of};
 use scr_base::{Bytes, Memory, Scheme};
-use std::alloc::Global;
+use std::alloc::{AllocError, Global};
 
-/// Each member's share, as often as said.
+/// Each member's share, as often as said; with `whole` as `member_of` gives it.
 pub fn encode(
     alloc: Global,
     scheme: Scheme,
     n: u8,
     data: &[u8],
     len: usize,
+    whole: bool,
     shares: &mut [u8],
     reps: usize,
 ) -> Result<(), Memory>
@@ -21,16 +22,20 @@ pub fn encode(
     for rep in 0..reps {
         let mut at = 0;
         for i in 0..n {
-            let held = member_of(alloc, scheme, &streams, i)?;
+            let share = if whole {
+                member_of(alloc, scheme, &streams, i)?.share
+            } else {
+                share_of(alloc, scheme, &streams, i)?
+            };
             if rep + 1 == reps {
-                at = put(shares, at, held.share.list());
+                at = put(shares, at, share.list());
             }
         }
     }
     Ok(())
 }
 
-/// The streams without the first ones, as often as said.
+/// The streams without the first ones, as often as said; those of the first ones alone, or with `whole` all.
 pub fn recover_all(
     alloc: Global,
     scheme: Scheme,
@@ -38,6 +43,7 @@ pub fn recover_all(
     lost: u8,
     data: &[u8],
     len: u32,
+    whole: bool,
     back: &mut [u8],
     reps: usize,
 ) -> Result<(), RecoverError>
@@ -48,7 +54,11 @@ pub fn recover_all(
     )?;
     let lengths = vec![in alloc; len; n as usize]?;
     for rep in 0..reps {
-        let streams = recover(alloc, scheme, &members, &lengths)?;
+        let streams = if whole {
+            recover(alloc, scheme, &members, &lengths)?
+        } else {
+            first_ones(alloc, scheme, &members, &lengths, lost)?
+        };
         if rep + 1 == reps {
             let mut at = 0;
             for i in 0..streams.len() {
@@ -57,6 +67,25 @@ pub fn recover_all(
         }
     }
     Ok(())
+}
+
+/// The first streams, each by a call of its own.
+fn first_ones(
+    alloc: Global,
+    scheme: Scheme,
+    members: &Vec<Option<Held>>,
+    lengths: &Vec<u32>,
+    count: u8,
+) -> Result<Vec<Bytes>, RecoverError>
+    requires set { IsSet scheme (vec_len members.now) }
+    requires lengths { vec_len lengths.now ≡ vec_len members.now }
+{
+    let mut streams = Vec::with_capacity(alloc, count as usize)?;
+    for i in 0..count.min(members.len() as u8) {
+        let stream = recover_one(alloc, scheme, members, lengths, i)?;
+        streams.push(stream).map_err(AllocError::from)?;
+    }
+    Ok(streams)
 }
 
 /// What the members hold, but for the first ones.

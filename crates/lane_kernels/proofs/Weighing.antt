@@ -1,13 +1,14 @@
 -- A sum as far as the source goes, and one source more.
-use Rattle.std.proofs.Common.{◌≡◌, ℕ, ◌+◌, ◌-◌, List, [], ◌++◌, length, take, drop, min, slice_index, slice_index_or, sym, ap, ◌∙◌, arith, inl, inr, length-take}
+use Rattle.std.proofs.Common.{◌≡◌, ℕ, ◌+◌, ◌-◌, List, [], ◌++◌, length, take, drop, min, slice_index, slice_index_or, refl, sym, ap, ap₂, ◌<◌, ◌∙◌, arith, inl, inr, length-take}
 use Rattle.std.proofs.Math.ListN.{get_or-eq_default}
 use Rattle.std.proofs.lemmas.Bool.{cases_lt}
 use Rattle.std.proofs.lemmas.List.{get_or-take, get_or-drop, get_or_append_left, get_or-append_right}
 use Rattle.gf256.specs.Field.{add, mul}
 use Rattle.gf256.proofs.Linear.{add_assoc, add_zero}
+use Rattle.gf256.proofs.FieldLemmas.{one-mul}
 use Rattle.poly_code.specs.Polynomial.{weighted_sum}
 use Rattle.poly_code.proofs.ValueLemmas.{weighted_sum_step, weighted_sum_none}
-use Rattle.lane_kernels.specs.Lanes.{AddsEach}
+use Rattle.lane_kernels.specs.Lanes.{AddsEach, with_four}
 
 pub as_far : (f g : ℕ → ℕ) (src old front : List ℕ) (len : ℕ) → len ≡ min (length old) (length src) → length front ≡ len → AddsEach f (take len src) (take len old) front
     → g 0 ≡ 0 → ((i : ℕ) → f (slice_index src i) ≡ g (slice_index src i)) → AddsEach g src old (front ++ drop len old)
@@ -43,3 +44,30 @@ one_source weights sources b n first before new was is =
     ∙ ap (λ t. add t (mul (slice_index weights n) (slice_index (slice_index_or sources n []) b))) was
     ∙ add_assoc first (sum_of_first weights sources b n) (mul (slice_index weights n) (slice_index (slice_index_or sources n []) b))
     ∙ ap (add first) (sym (weighted_sum_step (slice_index weights) (λ j. slice_index (slice_index_or sources j []) b) n))
+
+pub with_four_same : (x p p' q q' r r' s s' : ℕ) → p ≡ p' → q ≡ q' → r ≡ r' → s ≡ s' → with_four x p q r s ≡ with_four x p' q' r' s'
+with_four_same x p p' q q' r r' s s' e f g h = ap₂ add (ap₂ add (ap₂ add (ap (add x) e) f) g) h
+
+-- a byte by the weight 1
+pub weighed_once : (weight x : ℕ) → weight ≡ 1 → x < 256 → x ≡ mul weight x
+weighed_once weight x one small = sym (ap (λ w. mul w x) one ∙ one-mul x small)
+
+-- four sources more
+pub four_sources : (weights : List ℕ) (sources : List (List ℕ)) (b n first before new : ℕ) → before ≡ add first (sum_of_first weights sources b n)
+    → new
+    ≡ with_four before (mul (slice_index weights n) (slice_index (slice_index_or sources n []) b)) (mul (slice_index weights (n + 1)) (slice_index (slice_index_or sources (n + 1) []) b))
+    (mul (slice_index weights (n + 2)) (slice_index (slice_index_or sources (n + 2) []) b)) (mul (slice_index weights (n + 3)) (slice_index (slice_index_or sources (n + 3) []) b))
+    → new ≡ add first (sum_of_first weights sources b (n + 4))
+four_sources weights sources b n first before new was is =
+    let of : ℕ → ℕ = λ k. mul (slice_index weights k) (slice_index (slice_index_or sources k []) b) in
+    let sum : ℕ → ℕ = λ k. add first (sum_of_first weights sources b k) in
+    let x : ℕ = add before (of n) in
+    let y : ℕ = add x (of (n + 1)) in
+    let z : ℕ = add y (of (n + 2)) in
+    let two : n + 1 + 1 ≡ n + 2 = omega arith in
+    let three : n + 2 + 1 ≡ n + 3 = omega arith in
+    let four : n + 3 + 1 ≡ n + 4 = omega arith in
+    let at_one : x ≡ sum (n + 1) = one_source weights sources b n first before x was refl in
+    let at_two : y ≡ sum (n + 2) = one_source weights sources b (n + 1) first x y at_one refl ∙ ap sum two in
+    let at_three : z ≡ sum (n + 3) = one_source weights sources b (n + 2) first y z at_two refl ∙ ap sum three in
+    one_source weights sources b (n + 3) first z new at_three is ∙ ap sum four

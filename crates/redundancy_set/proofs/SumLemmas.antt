@@ -1,9 +1,10 @@
 -- Which members a sum is over, and what it completes.
-use Rattle.std.proofs.Common.{◌≡◌, ℕ, ◌+◌, ◌-◌, ◌<◌, ◌≤◌, not, Bool, true, false, List, [], ◌∷◌, ◌++◌, length, take, replicate, slice_index, slice_index_or, Option, Some, None, refl, sym, ap, subst, ◌∙◌, arith, length-take, length-append, inl, inr}
+use Rattle.std.proofs.Common.{◌≡◌, ℕ, ◌+◌, ◌-◌, ◌<◌, ◌≤◌, not, Bool, true, false, List, [], ◌∷◌, ◌++◌, length, take, drop, replicate, slice_index, slice_index_or, Option, Some, None, refl, sym, ap, subst, ◌∙◌, arith, length-take, length-append, inl, inr}
 use Rattle.std.specs.List.{filter}
 use Rattle.std.specs.Option.{is_some, is_none}
 use Rattle.std.proofs.lemmas.List.{take_all, get_or_append_left, get_or-append-add, get_or-replicate, length-replicate}
 use Rattle.std.proofs.lemmas.Bool.{cases_lt}
+use Rattle.std.proofs.lemmas.Grind.{common_steps}
 use Rattle.gf256.specs.Field.{add}
 use Rattle.gf256.proofs.Linear.{zero_add}
 use Rattle.lane_kernels.specs.Lanes.{AddsWeighed}
@@ -17,11 +18,11 @@ use Rattle.poly_code.specs.Code.{IsColumn}
 use Rattle.reed_solomon.specs.Stripe.{AreFactors as ColumnFactors}
 use Rattle.partner_copy.specs.declared.Held.{Held}
 use Rattle.member_shares.specs.Layout.{holds_parity}
-use Rattle.member_shares.proofs.Ranks.{rank}
+use Rattle.member_shares.proofs.Ranks.{rank, has_rank}
 use Rattle.member_shares.proofs.Places.{data_holders}
 use Rattle.redundancy_set.specs.Known.{is_lost}
 use Rattle.redundancy_set.specs.Recovered.{lost_places}
-use Rattle.redundancy_set.specs.Sums.{ArePlaces, AreFactors, IsPart, AreParts, AppendsSum, AppendsCode, has_data, is_there}
+use Rattle.redundancy_set.specs.Sums.{ArePlaces, AreFactors, IsPart, AreParts, AppendsSum, AppendsCode, IsCodeSegment, has_data, is_there, data_byte}
 use Rattle.redundancy_set.proofs.KnownLemmas.{rank_both}
 
 apart : (b : Bool) → b ≡ true → b ≡ false → ⊥
@@ -121,6 +122,11 @@ put_behind len factors parts old zeros segment is size added =
           ∙ zero_add (sum_at b);
     }
 
+-- a list whose end is written over
+pub written_over : (n from : ℕ) (grown items old dst post : List ℕ) → take from grown ≡ old → length post ≡ 0 → length old + length dst ≡ n
+    → take n (take from grown ++ (dst ++ post) ++ drop (length (take from grown ++ (dst ++ post))) items) ≡ old ++ dst
+written_over n from grown items old dst post front none size = grind (arith, common_steps, front, none, size)
+
 -- the parts at the first j places
 pub record PartsSoFar (c : ℕ) (byte : ℕ → ℕ → ℕ) (places : List ℕ) (j : ℕ) (parts : List (List ℕ)) : Type 0 where
   pub size : length parts ≡ j
@@ -167,3 +173,24 @@ there_here members n p xs places is same j h =
 pub same_count : (c : ℕ) (byte : ℕ → ℕ → ℕ) (scheme : Scheme) (n target : ℕ) (places factors : List ℕ) (parts : List (List ℕ)) → AreFactors scheme n places target factors
     → AreParts c byte places parts → length factors ≡ length parts
 same_count c byte scheme n target places factors parts f p = f.size ∙ sym p.size
+
+-- ---- the data segments of a stripe, by ascending member
+pub ranked_here : (n p s j : ℕ) (segments : List (List ℕ)) (places : List ℕ) (b : ℕ) → places ≡ filter (has_data n p s) (numbers_below n) → j < length places
+    → slice_index (slice_index_or segments j []) b ≡ data_byte n p s segments (slice_index places j) b
+ranked_here n p s j segments places b is h =
+    let own = has_rank (has_data n p s) n j (omega (arith, ap (length {A = ℕ}) is)) in
+    ap (λ t. slice_index (slice_index_or segments t []) b) (sym own.ranked) ∙ ap (λ xs. data_byte n p s segments (slice_index xs j) b) (sym is)
+
+pub data_count : (n p s count : ℕ) (places : List ℕ) → s < n → p ≤ n → places ≡ filter (has_data n p s) (numbers_below n) → count + p ≡ n → count ≡ length places
+data_count n p s count places h few is all = omega (arith, ap (length {A = ℕ}) is, data_holders n p s h few)
+
+pub code_segment : (scheme : Scheme) (n target c : ℕ) (there : ℕ → Bool) (byte : ℕ → ℕ → ℕ) (old new : List ℕ) → old ≡ [] → AppendsCode scheme n target c there byte old new
+    → IsCodeSegment scheme n target c there byte new
+code_segment scheme n target c there byte old new none a =
+    let empty : length old ≡ 0 = ap (length {A = ℕ}) none in
+    record {
+      size = omega (arith, a.size, empty);
+      value = λ b h bytes count right agree.
+          let at : length old + b ≡ b = omega (arith, empty) in
+          sym (ap (slice_index new) at) ∙ a.value b h bytes count right agree;
+    }

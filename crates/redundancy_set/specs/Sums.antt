@@ -1,6 +1,7 @@
 -- How the segments of some members of a stripe sum up to another's.
-use Rattle.std.specs.Prelude.{◌≡◌, ◌≢◌, ℕ, ◌+◌, ◌<◌, Bool, true, not, List, [], length, Option, slice_index, slice_index_or}
+use Rattle.std.specs.Prelude.{◌≡◌, ◌≢◌, ℕ, ◌+◌, ◌<◌, Bool, true, not, List, [], length, filter, Option, slice_index, slice_index_or}
 use Rattle.scr_base.specs.declared.shape.Scheme.{Scheme}
+use Rattle.scr_base.specs.Sets.{numbers_below}
 use Rattle.poly_code.specs.Polynomial.{IsBytes, weighted_sum}
 use Rattle.partner_copy.specs.declared.Held.{Held}
 use Rattle.member_shares.specs.Layout.{holds_parity}
@@ -52,3 +53,13 @@ pub record AppendsCode (scheme : Scheme) (n target len : ℕ) (there : ℕ → B
   pub front : (b : ℕ) → b < length old → slice_index new b ≡ slice_index old b
   pub value : (b : ℕ) → b < len → (bytes : List ℕ) → length bytes ≡ n → IsCodeColumn scheme bytes
       → ((m : ℕ) → m < n → there m ≡ true → slice_index bytes m ≡ byte m b) → slice_index new (length old + b) ≡ slice_index bytes target
+
+-- the byte at b of what is known of member m's data in stripe s, where the data segments are listed by ascending member
+abbrev pub data_byte : (n p s : ℕ) → List (List ℕ) → (m b : ℕ) → ℕ
+data_byte n p s segments m b = slice_index (slice_index_or segments (length (filter (has_data n p s) (numbers_below m))) []) b
+
+-- a segment of c bytes, each the target's in every column that has the bytes of the members that are there
+pub record IsCodeSegment (scheme : Scheme) (n target c : ℕ) (there : ℕ → Bool) (byte : ℕ → ℕ → ℕ) (segment : List ℕ) : Type 0 where
+  pub size : length segment ≡ c
+  pub value : (b : ℕ) → b < c → (bytes : List ℕ) → length bytes ≡ n → IsCodeColumn scheme bytes
+      → ((m : ℕ) → m < n → there m ≡ true → slice_index bytes m ≡ byte m b) → slice_index segment b ≡ slice_index bytes target

@@ -87,5 +87,5 @@ fn append_parity(
     let places = data.as_slice();
     let factors = factors_of(alloc, scheme, stripes.members, places, target)?;
     let parts = stream_parts(alloc, stripes, streams, places, stripe)?;
-    append_sum(alloc, share, stripes.len, parts.as_slice(), factors.list())
+    append_sum(share, stripes.len, parts.as_slice(), factors.list())
 }

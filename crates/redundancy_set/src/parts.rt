@@ -1,7 +1,8 @@
-ghost use Rattle.std.specs.Prelude.{◌≡◌, ℕ, ◌+◌, ◌*◌, ◌<◌, None, false, length, map, slice_index, IfOk};
+ghost use Rattle.std.specs.Prelude.{◌≡◌, ℕ, ◌+◌, ◌*◌, ◌<◌, None, false, length, map, filter, slice_index, IfOk};
+ghost use Rattle.scr_base.specs.Sets.{numbers_below};
 ghost use Rattle.member_shares.specs.Layout.{cell, data_place};
 ghost use Rattle.redundancy_set.specs.Known.{is_lost, held_byte, stream_byte};
-ghost use Rattle.redundancy_set.specs.Sums.{IsPart, AreParts};
+ghost use Rattle.redundancy_set.specs.Sums.{IsPart, AreParts, has_data, data_byte};
 
 use crate::stripes::Stripes;
 use partner_copy::Held;
@@ -26,6 +27,25 @@ pub fn stream_parts<'a>(
         let m = places[j];
         let place = stripes.data_place(m, stripe);
         parts.push(part_at(streams[m as usize].list(), place, stripes.len))?;
+    }
+    Ok(parts)
+}
+
+/// What is known of a stripe's data segments, which `segments` has by ascending member, at their places.
+pub fn data_parts<'a>(
+    alloc: Global,
+    stripes: Stripes,
+    segments: &'a [Bytes],
+    places: &[u8],
+    stripe: u8,
+) -> Result<Vec<&'a [u8]>, AllocError>
+    requires count { length segments.now ≡ length places.now }
+    requires places { places.now ≡ filter (has_data stripes.members stripes.parity stripe) (numbers_below stripes.members) }
+    ensures { IfOk result (λ parts. AreParts stripes.len (data_byte stripes.members stripes.parity stripe segments.now) places.now (map (λ part. part.now) parts.items)) }
+{
+    let mut parts = Vec::with_capacity(alloc, places.len())?;
+    for j in 0..places.len() {
+        parts.push(part_at(segments[j].list(), 0, stripes.len))?;
     }
     Ok(parts)
 }

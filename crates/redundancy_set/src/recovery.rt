@@ -226,7 +226,7 @@ fn rebuilt(
         if stream.len() < len && !stripes.has_parity(stripe, i) {
             let parts = held_parts(alloc, stripes, members, places, stripe)?;
             let taken = stripes.len.min(len - stream.len());
-            append_sum(alloc, &mut stream, taken, parts.as_slice(), weights)?;
+            append_sum(&mut stream, taken, parts.as_slice(), weights)?;
         }
     }
     Ok(Bytes::of(stream))

@@ -2,12 +2,11 @@ ghost use Rattle.std.specs.Prelude.{◌≡◌, length, map, IfOk};
 ghost use Rattle.redundancy_set.specs.Sums.{AppendsSum};
 
 use lane_kernels::weigh_into;
-use std::alloc::{AllocError, Global};
+use std::alloc::AllocError;
 
 /// Appends `len` bytes: each is the sum of the parts' bytes at its place, times their factors. A part that ends earlier
-/// stands for zeros from there on.
+/// stands for zeros from there on. The bytes are summed up where they stand, and no others are taken for it.
 pub fn append_sum(
-    alloc: Global,
     out: &mut Vec<u8>,
     len: usize,
     parts: &[&[u8]],
@@ -16,8 +15,8 @@ pub fn append_sum(
     requires { length factors.now ≡ length parts.now }
     ensures { IfOk result (λ _. AppendsSum len factors.now (map (λ part. part.now) parts.now) out.old.items out.new.items) }
 {
-    let mut segment = vec![in alloc; 0; len]?;
-    weigh_into(segment.as_mut_slice(), parts, factors);
-    out.extend_from_slice(segment.as_slice())?;
+    let from = out.len();
+    out.resize(from.saturating_add(len), 0)?;
+    weigh_into(&mut out.as_mut_slice()[from..], parts, factors);
     Ok(())
 }
