@@ -7,3 +7,4 @@ pub mod Finding
 pub mod Changes
 pub mod Turning
 pub mod Bodies
+pub mod Moving

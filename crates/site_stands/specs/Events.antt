@@ -10,3 +10,11 @@ pub record HasSamePairs (m new : Machine) : Type 0 where
   pub mark : new.mark ≡ m.mark
   pub pending : pending_of new.stage ≡ pending_of m.stage
   pub stores : (stored : Bool) → IsTrue (may_store m stored) → IsTrue (may_store new stored)
+
+-- of all that the devices stand for, the datasets in cache alone may change
+pub record ChangesCache (m new : Machine) : Type 0 where
+  pub run : new.run ≡ m.run
+  pub halt : new.halt ≡ m.halt
+  pub mark : new.mark ≡ m.mark
+  pub stage : new.stage ≡ m.stage
+  pub index : new.index ≡ m.index

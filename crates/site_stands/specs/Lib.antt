@@ -7,6 +7,7 @@ pub mod Prefix
 pub mod Site
 pub mod Frame
 pub mod Moves
+pub mod MemberMoves
 pub mod Events
 pub mod Gate
 pub mod Mend

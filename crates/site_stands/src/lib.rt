@@ -6,6 +6,7 @@ mod events;
 mod frame;
 mod gates;
 mod look;
+mod moves;
 mod records;
 mod stops;
 
@@ -27,5 +28,9 @@ pub use gates::{
     a_seal_turns_one_gate, a_sync_ends_the_turn_of_a_gate, gates_tell_how_a_dataset_stands,
 };
 pub use look::what_is_listed_may_be_found;
+pub use moves::{
+    a_change_of_one_file_moves_its_dataset, a_gate_write_leaves_the_rest_of_its_record,
+    a_moved_dataset_alone_is_left_to_show, an_event_of_the_cache_keeps_the_prefix,
+};
 pub use records::{a_file_of_a_member_reads, one_dataset_has_one_record};
 pub use stops::{a_safe_stop_leaves_what_stands, a_stop_is_safe};

@@ -39,10 +39,10 @@ same_file f g same o may = subst (λ (x : File). MayLeave x o) same may
 
 -- ## Names
 
-few_nodes : (shape : Shape) → shape.nodes ≤ 16
+pub few_nodes : (shape : Shape) → shape.nodes ≤ 16
 few_nodes shape = grind (arith, nat_tests, shape.limits)
 
-few_ranks : (shape : Shape) → shape.ranks ≤ 8
+pub few_ranks : (shape : Shape) → shape.ranks ≤ 8
 few_ranks shape = grind (arith, nat_tests, shape.limits)
 
 pub desc_place : (d : Desc) (node : ℕ) → node < 2 ^ 8 → IsPlace d.which node
@@ -51,14 +51,14 @@ desc_place d node small = record { id = grind (arith, d.ranges); run = grind (ar
 pub read_place : (shape : Shape) (o : Option (List ℕ)) (which : DataId) (node : ℕ) → Reads shape o which node → IsPlace which node
 read_place shape o which node r = subst (λ (w : DataId). IsPlace w node) (r.1.reads.member.which ∙ r.1.which_is) (desc_place r.0.desc node (omega (arith, r.1.reads.member.node, r.1.reads.member.nodes, r.1.node_is, few_nodes shape)))
 
-told_place : (shape : Shape) (desc : Desc) (rows : List (List FileRow)) (d : Dataset) (node : ℕ) → Describes shape desc rows d → node < shape.nodes → IsPlace d.which node
+pub told_place : (shape : Shape) (desc : Desc) (rows : List (List FileRow)) (d : Dataset) (node : ℕ) → Describes shape desc rows d → node < shape.nodes → IsPlace d.which node
 told_place shape desc rows d node describes small = subst (λ (w : DataId). IsPlace w node) describes.which (desc_place desc node (omega (arith, small, few_nodes shape)))
 
 all_of_at : {A : Type 0} (P : A → Type 0) (xs : List A) (i : ℕ) (x : A) → All P xs → slice_get xs i ≡ Some x → P x
 all_of_at P xs i x all at = subst P (Rattle.std.proofs.lemmas.Option.get_or_from_slice_get xs i x x at) (Rattle.std.proofs.lemmas.List.Elements.All-get_or P xs i x (slice_get_within xs i x at) all)
 
 -- a rank has few files
-few_files : (shape : Shape) (desc : Desc) (rows : List (List FileRow)) (d : Dataset) (rank j : ℕ) (f : RankFile) → Describes shape desc rows d → slice_get (files_of d rank) j ≡ Some f → j < 2 ^ 8
+pub few_files : (shape : Shape) (desc : Desc) (rows : List (List FileRow)) (d : Dataset) (rank j : ℕ) (f : RankFile) → Describes shape desc rows d → slice_get (files_of d rank) j ≡ Some f → j < 2 ^ 8
 few_files shape desc rows d rank j f describes at = pick (slice_get d.files rank) refl at
   where
     pick : (o : Option (List RankFile)) → slice_get d.files rank ≡ o → slice_get (unwrap_or o []) j ≡ Some f → j < 2 ^ 8
