@@ -20,7 +20,7 @@ use Rattle.commit_core.proofs.Listed.{numbers_more}
 use Rattle.commit_core.proofs.SetLengths.{set_is, length-lengths}
 
 -- what holds of the elements of lists holds of those of the lists one behind the other
-all_flat : {X : Type 0} (P : X → Type 0) (f : ℕ → List X) (m : ℕ) → ((j : ℕ) → j < m → All P (f j)) → All P (flat_map f (numbers_below m))
+pub all_flat : {X : Type 0} (P : X → Type 0) (f : ℕ → List X) (m : ℕ) → ((j : ℕ) → j < m → All P (f j)) → All P (flat_map f (numbers_below m))
 all_flat P f zero each = All-nil P
 all_flat P f (suc m) each =
     let more : numbers_below (suc m) ≡ numbers_below m ++ m ∷ [] = let e = numbers_more m in rw (add-one) at e in
@@ -29,7 +29,7 @@ all_flat P f (suc m) each =
     subst (All P) (sym joined)
     (All-append P (flat_map f (numbers_below m)) (f m) (all_flat P f m (λ j l. each j (omega (arith, l)))) (each m (omega arith)))
 
-all_at : {X : Type 0} (P : X → Type 0) (xs : List X) (x : X) → All P xs → Contains xs x → P x
+pub all_at : {X : Type 0} (P : X → Type 0) (xs : List X) (x : X) → All P xs → Contains xs x → P x
 all_at P xs x all among = subst P among.2 (all among.0 x among.1)
 
 -- the stripe and the target of a piece fit a set of so many members, which its group tells

@@ -1,21 +1,17 @@
 -- What the inputs tell of a stripe.
-use Rattle.std.proofs.Common.{◌≡◌, ℕ, ◌+◌, ◌-◌, ◌<◌, ◌≤◌, not, true, false, if◌then◌else◌, IsTrue, List, [], ◌∷◌, ◌++◌, length, map, slice_index, slice_index_or, Option, Some, None, refl, sym, ap, subst, ◌∙◌, arith, inl, inr, add-one}
+use Rattle.std.proofs.Common.{◌≡◌, ℕ, ◌+◌, ◌<◌, ◌≤◌, not, Bool, true, false, if◌then◌else◌, IsTrue, List, [], length, slice_index, slice_index_or, Option, Some, None, refl, sym, ap, subst, ◌∙◌, arith, inl, inr}
 use Rattle.std.specs.Option.{IfSome}
 use Rattle.std.proofs.lemmas.Bool.{cases_Bool}
-use Rattle.std.proofs.lemmas.List.FromFn.{length-map-range_with_len, get_or-map-range_with_len, map-range_with_len_more}
+use Rattle.std.proofs.lemmas.List.FromFn.{length-map-range_with_len, get_or-map-range_with_len}
 use Rattle.scr_base.specs.declared.shape.Scheme.{Scheme}
-use Rattle.scr_base.specs.Sets.{numbers_below}
-use Rattle.reed_solomon.specs.Stripe.{known_places}
 use Rattle.member_shares.specs.Layout.{holds_parity}
-use Rattle.member_shares.specs.Shares.{parity_count, IsSet}
-use Rattle.member_shares.proofs.Ranks.{rank_in, rank_out, stands_at}
+use Rattle.member_shares.proofs.Ranks.{stands_at}
 use Rattle.member_shares.proofs.Places.{data_holders}
-use Rattle.redundancy_set.specs.Known.{IsKnownAt, IsKnown}
-use Rattle.redundancy_set.proofs.KnownLemmas.{known_gone, known_long, rank_both}
-use Rattle.redundancy_set.proofs.Segments.{data_enough}
-use Rattle.commit_core.specs.Claims.{input_length, have_one_length, is_claim}
+use Rattle.redundancy_set.specs.Known.{IsKnownAt, IsKnown, IsCompleted}
+use Rattle.redundancy_set.specs.Sums.{IsCodeSegment, has_data, data_byte}
+use Rattle.commit_core.specs.Claims.{input_length, have_one_length}
 use Rattle.commit_core.specs.Deposits.{input_place, known_at, known_of}
-use Rattle.commit_core.proofs.ClaimFacts.{one_length, coded}
+use Rattle.commit_core.proofs.ClaimFacts.{one_length}
 
 pub at_parity : (n p s m : ℕ) (inputs : List (List ℕ)) → holds_parity n p s m ≡ true → known_at n p s inputs m ≡ None
 at_parity n p s m inputs e = ap (λ t. if t then None else Some (slice_index_or inputs (input_place n p s m) [])) e
@@ -23,32 +19,11 @@ at_parity n p s m inputs e = ap (λ t. if t then None else Some (slice_index_or 
 pub at_data : (n p s m : ℕ) (inputs : List (List ℕ)) → holds_parity n p s m ≡ false → known_at n p s inputs m ≡ Some (slice_index_or inputs (input_place n p s m) [])
 at_data n p s m inputs e = ap (λ t. if t then None else Some (slice_index_or inputs (input_place n p s m) [])) e
 
--- a member more
-pub known_more : (n p s m : ℕ) (inputs : List (List ℕ)) (old new : List (Option (List ℕ))) (segment : Option (List ℕ))
-    → old ≡ map (known_at n p s inputs) (numbers_below m) → segment ≡ known_at n p s inputs m → new ≡ old ++ segment ∷ []
-    → new ≡ map (known_at n p s inputs) (numbers_below (m + 1))
-known_more n p s m inputs old new segment before here is =
-    is ∙ ap (λ xs. xs ++ segment ∷ []) before ∙ ap (λ x. map (known_at n p s inputs) (numbers_below m) ++ x ∷ []) here
-    ∙ sym (map-range_with_len_more (known_at n p s inputs) 0 m m (omega arith))
-
-pub place_in : (n p s m : ℕ) → holds_parity n p s m ≡ false → input_place n p s (m + 1) ≡ input_place n p s m + 1
-place_in n p s m e = rw add-one (rank_in (λ t. not (holds_parity n p s t)) m (ap not e))
-
-pub place_out : (n p s m : ℕ) → holds_parity n p s m ≡ true → input_place n p s (m + 1) ≡ input_place n p s m
-place_out n p s m e = rw add-one (rank_out (λ t. not (holds_parity n p s t)) m (ap not e))
-
-pub place_most : (n p s m : ℕ) → input_place n p s m ≤ m
-place_most n p s m = omega (arith, rank_both (holds_parity n p s) m)
-
 -- each member that has data in the stripe has an input
 pub place_within : (n p s m count : ℕ) → s < n → p ≤ n → m < n → count + p ≡ n → holds_parity n p s m ≡ false → input_place n p s m < count
 place_within n p s m count h few l all e =
     let own = stands_at (λ t. not (holds_parity n p s t)) n m l (ap not e) in
     omega (arith, own.within, data_holders n p s h few)
-
-pub next_within : (n p s m next : ℕ) (inputs : List (List ℕ)) → s < n → p ≤ n → m < n → length inputs + p ≡ n → holds_parity n p s m ≡ false
-    → next ≡ input_place n p s m → next < length inputs
-next_within n p s m next inputs h few l all e is = let low = place_within n p s m (length inputs) h few l all e in omega (arith, low, is)
 
 -- the bytes of a member's input
 abbrev pub input_byte : (n p s : ℕ) → List (List ℕ) → (m b : ℕ) → ℕ
@@ -75,28 +50,27 @@ known_is n p s inputs h few all one = record {
       ]);
 }
 
--- what is known completes the stripe at the target
-pub record IsReady (scheme : Scheme) (target c : ℕ) (known : List (Option (List ℕ))) : Type 0 where
-  pub set : IsSet scheme (length known)
-  pub within : target < length known
-  pub lost : slice_index_or known target None ≡ None
-  pub enough : length known - parity_count scheme ≤ length (known_places known)
-  pub lengths : (m : ℕ) → m < length known → IfSome (slice_index_or known m None) (λ s. length s ≡ c)
+-- a column that has the bytes of what is known has those of the inputs
+gives_when : (gap : Bool) (c b v : ℕ) (byte : ℕ → ℕ) (segment : Option (List ℕ)) → IsKnownAt gap c byte segment → gap ≡ false → b < c → IfSome segment (λ s. v ≡ slice_index s b)
+    → v ≡ byte b
+gives_when true c b v byte segment is free low h = cc
+gives_when false c b v byte None is free low h = absurd is
+gives_when false c b v byte (Some segment) is free low h = h ∙ is.bytes b low
 
-pub ready : (scheme : Scheme) (n p s target : ℕ) (inputs : List (List ℕ)) (known : List (Option (List ℕ))) → p ≡ parity_count scheme → 1 ≤ p
-    → IsTrue (is_claim scheme s target inputs) → n ≡ length inputs + p → known ≡ known_of n p s inputs → IsReady scheme target (input_length inputs) known
-ready scheme n p s target inputs known ep some fits en is =
-    let claimed = coded scheme p s target inputs ep some fits in
-    let h : s < n = omega (arith, claimed.of_stripe.stripe_in) in
-    let few : p ≤ n = omega arith in
-    let l : target < n = omega (arith, claimed.of_stripe.target_in) in
-    let held : holds_parity n p s target ≡ true = subst (λ t. holds_parity t p s target ≡ true) (sym en) claimed.of_stripe.parity in
-    let k : IsKnown n (input_length inputs) (holds_parity n p s) (input_byte n p s inputs) known =
-    subst (IsKnown n (input_length inputs) (holds_parity n p s) (input_byte n p s inputs)) (sym is) (known_is n p s inputs h few (sym en) claimed.one) in
+is_free : (b : Bool) → not b ≡ true → b ≡ false
+is_free true e = cc
+is_free false e = refl
+
+-- the segment that the inputs give the target completes the stripe at the target
+pub completes : (scheme : Scheme) (n p s target c : ℕ) (inputs : List (List ℕ)) (segment : List ℕ) → s < n → p ≤ n → length inputs + p ≡ n → IsTrue (have_one_length inputs)
+    → c ≡ input_length inputs → IsCodeSegment scheme n target c (has_data n p s) (data_byte n p s inputs) segment → IsCompleted scheme (known_of n p s inputs) target (input_length inputs) segment
+completes scheme n p s target c inputs segment h few all one size g =
+    let k = known_is n p s inputs h few all one in
     record {
-      set = subst (IsSet scheme) (sym (k.count ∙ en)) claimed.set;
-      within = omega (arith, k.count);
-      lost = known_gone n (input_length inputs) (holds_parity n p s) (input_byte n p s inputs) known k target l held;
-      enough = data_enough scheme n p (input_length inputs) s (input_byte n p s inputs) known ep few h k;
-      lengths = known_long n (input_length inputs) (holds_parity n p s) (input_byte n p s inputs) known k;
+      size = g.size ∙ size;
+      value = λ b low bytes count right agree.
+          g.value b (omega (arith, size)) bytes (count ∙ k.count) right
+          (λ m l free.
+          gives_when (holds_parity n p s m) (input_length inputs) b (slice_index bytes m) (input_byte n p s inputs m) (slice_index_or (known_of n p s inputs) m None) (k.each m l)
+          (is_free (holds_parity n p s m) free) low (agree m (omega (arith, k.count))));
     }

@@ -4,3 +4,17 @@ pub mod LedgerBook
 pub mod LedgerIndex
 pub mod PieceClaims
 pub mod Pieces
+pub mod Sets
+pub mod Stages
+pub mod Changes
+pub mod Committing
+pub mod Fill
+pub mod Opened
+pub mod SharePieces
+pub mod Holds
+pub mod Steps
+pub mod Stretch
+pub mod Reads
+pub mod PieceSets
+pub mod Claiming
+pub mod ClaimReads

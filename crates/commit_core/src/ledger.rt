@@ -66,6 +66,13 @@ impl Ledger {
         piece_at(self.pieces.as_slice(), self.first)
     }
 
+    /// How many numbers have been given, which is the greatest of them.
+    pub fn given(&self) -> u64
+        ensures { result ≡ self.now.given }
+    {
+        self.given
+    }
+
     /// Hands out the first unclaimed piece under the next number, counted from 1. NoneLeft exactly where none is
     /// unclaimed, else NoNumber exactly where the greatest `u64` has been given; after both all is as before.
     pub fn take(&mut self) -> Taken

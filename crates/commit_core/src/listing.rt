@@ -51,14 +51,14 @@ fn add_local(
 }
 
 /// How many groups there are.
-fn groups_of(sets: Sets) -> u8
+pub(crate) fn groups_of(sets: Sets) -> u8
     ensures { result ≡ group_count sets.nodes sets.size }
 {
     (sets.nodes / sets.size).max(1)
 }
 
 /// The lengths of the streams of one set's members.
-fn lengths_of(
+pub(crate) fn lengths_of(
     alloc: Global,
     sets: Sets,
     ranks: u8,
