@@ -9,3 +9,6 @@ pub mod Told
 pub mod Adds
 pub mod FlushedIds
 pub mod Marked
+pub mod DropGoes
+pub mod DropBegins
+pub mod StoresMark

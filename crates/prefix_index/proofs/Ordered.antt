@@ -92,14 +92,20 @@ ascending xs ys m ascend puts other = subst AreAscending (sym puts.put) (λ i j 
 
 -- ## Finding the place
 
-pub one_more : (xs : List Entry) (place index : ℕ) (m other : Entry) → place ≡ index → other ≡ get_or xs index other → IsBefore other m → ((i : ℕ) (a : Entry) → i < place → slice_get xs i ≡ Some a → IsBefore a m) → (i : ℕ) (a : Entry) → i < place + 1 → slice_get xs i ≡ Some a → IsBefore a m
-one_more xs place index m other same is less before i a lt at = pick (split i place lt) where
+-- those up to one that is before it are before it too
+pub up_to : (xs : List Entry) (middle : ℕ) (m other : Entry) → AreAscending xs → slice_get xs middle ≡ Some other → IsBefore other m → (i : ℕ) (a : Entry) → i < middle + 1 → slice_get xs i ≡ Some a → IsBefore a m
+up_to xs middle m other ascend there less i a lt at = pick (split i middle lt) where
   split : (u v : ℕ) → u < v + 1 → (u < v) ⊎ (u ≡ v)
   split u v lt = grind (arith, lt)
 
-  pick : (i < place) ⊎ (i ≡ place) → IsBefore a m
-  pick (inl below) = before i a below at
-  pick (inr here) = subst (λ (x : Entry). IsBefore x m) (is ∙ get_or_from_slice_get xs index a other (ap (slice_get xs) (sym (here ∙ same)) ∙ at)) less
+  pick : (i < middle) ⊎ (i ≡ middle) → IsBefore a m
+  pick (inl below) = before-trans a other m (ascend i middle a other below at there) less
+  pick (inr here) = subst (λ (x : Entry). IsBefore x m) (some_same other a (sym there ∙ ap (slice_get xs) (sym here) ∙ at)) less
 
-pub all_before : (xs : List Entry) (place index : ℕ) (m : Entry) → place ≡ index → index ≤ length xs → length xs ≤ index → ((i : ℕ) (a : Entry) → i < place → slice_get xs i ≡ Some a → IsBefore a m) → IsPlaceFor xs m place
-all_before xs place index m same le end before = record { within = omega (arith, same, le); before = before; stop = λ a at. absurd (omega (arith, same, end, slice_get_within xs place a at)) }
+pub met_at : (xs : List Entry) (low high : ℕ) (m : Entry) → high ≤ length xs → low ≤ high → high ≤ low → ((i : ℕ) (a : Entry) → i < low → slice_get xs i ≡ Some a → IsBefore a m) → ((a : Entry) → slice_get xs high ≡ Some a → ¬ IsBefore a m) → IsPlaceFor xs m low
+met_at xs low high m inside apart end before stop =
+    let same : low ≡ high = omega (arith, apart, end) in
+    record { within = omega (arith, apart, inside); before = before; stop = λ a at. stop a (ap (slice_get xs) (sym same) ∙ at) }
+
+pub none_past : {X : Type 0} (xs : List Entry) (a : Entry) → slice_get xs (length xs) ≡ Some a → X
+none_past xs a at = absurd (omega (arith, slice_get_within xs (length xs) a at))

@@ -19,6 +19,8 @@ use Rattle.dataset_desc.specs.Ranges.{is_number, is_size}
 use Rattle.dataset_desc.specs.Parts.{dset_tree, scheme_tree, shape_tree, flags_key, scheme_key, shares_of}
 use Rattle.dataset_desc.specs.declared.desc.Desc.{Desc}
 use Rattle.prefix_index.specs.Entries.{entry_tree}
+use Rattle.prefix_index.specs.Marks.{mark_tree}
+use Rattle.scr_base.specs.declared.shape.DataId.{DataId}
 use Rattle.filemap.specs.Rows.{IsRow, IsRows}
 use Rattle.filemap.specs.Numbered.{numbered, two_digits}
 use Rattle.filemap.specs.Maps.{file_tree, rows_tree, map_tree}
@@ -194,3 +196,18 @@ record_short desc files named ranks all =
     body_short desc files (leb-true (length desc.name) 64 (name_short (begins_well desc.name) (nat_le (length desc.name) 64) (list_all is_name_byte desc.name) named))
     (omega (arith, upper 1 4294967295 desc.which.id parts.0)) (omega (arith, upper 1 4294967295 desc.which.run parts.1)) (omega (arith, shares_few desc.scheme parts.3)) (omega (arith, upper 2 16 desc.size parts.4))
     (omega (arith, upper 1 16 desc.nodes site.0)) (omega (arith, upper 1 8 desc.ranks site.1)) (omega (arith, ranks, few)) all
+
+pub mark_short : (which : DataId) → which.id < 2 ^ 32 → which.run < 2 ^ 32 → length (encoding (mark_tree which)) ≤ 1048572
+mark_short which id run = omega (
+  arith,
+  size_is (mark_tree which),
+  size_entry (codes "ID") (leaf (decimal which.id)) (entry (codes "RUN") (leaf (decimal which.run)) none),
+  size_entry (codes "RUN") (leaf (decimal which.run)) none,
+  size_none,
+  decimal_size which.id id,
+  decimal_size which.run run,
+  length-append (to_be_bytes w32 (width (mark_tree which))) (children_bytes (mark_tree which)),
+)
+
+pub mark_depth : (which : DataId) → depth (mark_tree which) ≤ 16
+mark_depth which = omega arith

@@ -5,3 +5,6 @@ pub mod Trees
 pub mod Listing
 pub mod Answers
 pub mod Calls
+pub mod Drops
+pub mod DropParts
+pub mod Storing

@@ -2,6 +2,7 @@
 #![tactic(auto)]
 
 mod adding;
+mod dropping;
 mod entry;
 mod entry_name;
 mod error;
@@ -10,11 +11,14 @@ mod listing;
 mod marks;
 mod order;
 mod reading;
+mod storing;
 mod tree;
 
 pub use adding::add_body;
+pub use dropping::drop_step;
 pub use entry::Entry;
 pub use error::IndexError;
 pub use gates::{add_gate, fail_gate};
 pub use listing::list;
 pub use marks::mark;
+pub use storing::current_step;

@@ -11,7 +11,7 @@ ghost use Rattle.prefix_index.specs.Calls.{IsMark, TellsMark};
 use crate::listing::entries;
 use crate::{Entry, IndexError};
 use gated_record::pair_load;
-use kvtree::{Tree, TreeError, decode};
+use kvtree::{Tree, TreeError};
 use node_device::{DevError, Device};
 use scr_base::{DataId, Memory};
 use std::alloc::Global;
@@ -55,7 +55,7 @@ fn stored<D: Device>(alloc: Global, dev: &mut D) -> Result<Option<DataId>, DevEr
 fn spelled_by(alloc: Global, payload: &[u8]) -> Result<Option<DataId>, Memory>
     ensures { IfOk result (λ which. which ≡ mark_of payload.now) }
 {
-    match decode(alloc, payload) {
+    match Tree::decode(alloc, payload) {
         Ok(tree) => Ok(told_by(&tree)),
         Err(TreeError::Memory) => Err(Memory),
         Err(_) => Ok(None),

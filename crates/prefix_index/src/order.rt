@@ -1,7 +1,7 @@
 //! The order of entries: by id, and then by run.
-ghost use Rattle.std.specs.Prelude.{◌≡◌, IsTrue, ◌↔◌, OnErr, OnOk, Err};
+ghost use Rattle.std.specs.Prelude.{◌≡◌, ◌≤◌, IsTrue, ◌↔◌, length, OnErr, OnOk, Err};
 ghost use Rattle.prefix_index.specs.Entries.{IsBefore};
-ghost use Rattle.prefix_index.specs.Listing.{IsPlaceFor, PutsEntry};
+ghost use Rattle.prefix_index.specs.Listing.{AreAscending, IsPlaceFor, PutsEntry};
 
 use crate::Entry;
 use node_device::DevError;
@@ -17,24 +17,28 @@ fn is_before(a: &Entry, b: &Entry) -> bool
     }
 }
 
-/// How many entries from the front on are before this one.
+/// How many entries from the front on are before this one, where they ascend.
 fn place_for(entries: &[Entry], entry: &Entry) -> usize
-    ensures { IsPlaceFor entries.now entry.now result }
+    ensures within { result ≤ length entries.now }
+    ensures place { AreAscending entries.now → IsPlaceFor entries.now entry.now result }
 {
-    let mut place = 0;
-    for other in entries {
-        if !is_before(other, entry) {
-            return place;
+    let mut low = 0;
+    let mut high = entries.len();
+    while low < high {
+        let middle = low + (high - low) / 2;
+        if is_before(&entries[middle], entry) {
+            low = middle + 1;
+        } else {
+            high = middle;
         }
-        place += 1;
     }
-    place
+    low
 }
 
 /// Puts an entry behind those that are before it.
 pub(crate) fn put_in_order(entries: &mut Vec<Entry>, entry: Entry) -> Result<(), DevError>
     ensures memory { OnErr result (result ≡ Err DevError.Memory) }
-    ensures put { OnOk result (PutsEntry entries.old.items entry entries.new.items) }
+    ensures put { OnOk result (AreAscending entries.old.items → PutsEntry entries.old.items entry entries.new.items) }
 {
     let place = place_for(entries, &entry);
     entries.insert(place, entry)?;

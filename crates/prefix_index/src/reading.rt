@@ -14,7 +14,7 @@ use crate::Entry;
 use crate::entry_name::EntryName;
 use crate::tree::{Found, found_in};
 use gated_record::{Record, read_record};
-use kvtree::{Tree, TreeError, decode};
+use kvtree::{Tree, TreeError};
 use node_device::{DevError, Device};
 use std::alloc::Global;
 
@@ -38,7 +38,7 @@ fn tree_of(alloc: Global, bytes: &[u8]) -> Result<Option<Tree>, DevError>
     ensures found { IfOk result (λ o. IfSome o (λ t. IsEncoding t bytes.now)) }
     ensures only { (t : Entries) → IsEncoding t bytes.now → IfOk result (λ o. o ≡ Some t) }
 {
-    match decode(alloc, bytes) {
+    match Tree::decode(alloc, bytes) {
         Ok(tree) => Ok(Some(tree)),
         Err(fault) => {
             if is_memory(&fault) {
