@@ -29,7 +29,7 @@ use Rattle.ckpt_model.specs.declared.event.CommandAnswer.TheVariants as told
 use Rattle.model_proper.proofs.Fair.Passes.{between_fair}
 use Rattle.model_proper.proofs.Steps.{run_fair}
 use Rattle.site_stands.specs.Site.{Stands}
-use Rattle.site_core.specs.Calls.{Tells}
+use Rattle.site_calls.specs.Calls.{Tells}
 use Rattle.site_core.specs.Holds.{CanBegin}
 use Rattle.site_core.proofs.HaltCommands.{halt_begins}
 use Rattle.site_core.proofs.Stands.Standing.{begins_stand}

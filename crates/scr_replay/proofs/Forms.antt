@@ -8,7 +8,7 @@ use Rattle.scr_base.specs.declared.actor.Actor.{Actor}
 use Rattle.scr_base.specs.declared.actor.Actor.TheVariants as actor
 use Rattle.scr_base.specs.declared.shape.Scheme.{Scheme}
 use Rattle.scr_base.specs.declared.shape.Scheme.TheVariants.{Single, Partner, Xor, Rs}
-use Rattle.site_core.specs.Follows.{IsActor}
+use Rattle.site_state.specs.Order.{IsActor}
 use Rattle.admin.specs.declared.command.Command.{Command}
 use Rattle.script_reader.specs.declared.script.Item.{Item}
 use Rattle.script_reader.specs.declared.script.Item.TheVariants.{Run, Lose, Scavenge, Admin}

@@ -1,10 +1,11 @@
 -- Turns, one after another, leave less ahead of a run, or leave it as it was.
 use Rattle.std.proofs.Common.{inl, inr, ℕ, ap, ◌∙◌, refl, arith}
-use Rattle.site_core.specs.Ahead.{ahead, Lowers}
+use Rattle.site_state.specs.Ahead.{ahead}
+use Rattle.site_core.specs.Ahead.{Lowers}
 use Rattle.site_core.specs.Follows.{Stays}
 use Rattle.site_core.specs.declared.site.Site.{Site}
-use Rattle.site_core.specs.declared.turn.Turn.{Turn}
-use Rattle.site_core.specs.declared.turn.Turn.TheVariants as turn
+use Rattle.site_state.specs.declared.turn.Turn.{Turn}
+use Rattle.site_state.specs.declared.turn.Turn.TheVariants as turn
 use Rattle.scr_replay.specs.Goes.{FallsOrRests, GoesDown}
 
 pub turn_goes : {D : Type 0} (t : Turn) (old new : Site D) → Lowers t old new → Stays t old new → GoesDown old new

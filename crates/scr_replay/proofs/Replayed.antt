@@ -19,7 +19,7 @@ use Rattle.script_reader.specs.declared.script.Item.TheVariants as item
 use Rattle.script_reader.specs.declared.script.RunItem.{RunItem}
 use Rattle.node_device.specs.Calls.{Crashes}
 use Rattle.site_stands.specs.Site.{Stands, IsSafeToStop, StandsAfterStop}
-use Rattle.site_core.specs.Calls.{Tells}
+use Rattle.site_calls.specs.Calls.{Tells}
 use Rattle.site_core.specs.Holds.{CanBegin, Closes, goes_well}
 use Rattle.site_core.proofs.Readings.{readings_then}
 use Rattle.site_core.proofs.Faults.{no_causes, causes_then, level}

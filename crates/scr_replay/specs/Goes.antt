@@ -1,6 +1,6 @@
 -- What the turns of a run do to what is ahead of it.
 use Rattle.std.specs.Prelude.{◌≡◌, ◌⊎◌, ◌<◌, ℕ}
-use Rattle.site_core.specs.Ahead.{ahead}
+use Rattle.site_state.specs.Ahead.{ahead}
 use Rattle.site_core.specs.declared.site.Site.{Site}
 
 -- no move was counted and as much is ahead, or less is

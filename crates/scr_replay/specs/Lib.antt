@@ -1,3 +1,4 @@
+pub mod Devices
 pub mod Words
 pub mod Inputs
 pub mod Outputs

@@ -13,7 +13,7 @@ use Rattle.ckpt_model.specs.declared.event.Event.TheVariants as event
 use Rattle.ckpt_model.specs.declared.event.StopCause.{StopCause}
 use Rattle.ckpt_model.specs.declared.event.StopCause.TheVariants as stops
 use Rattle.site_stands.specs.Site.{Stands}
-use Rattle.site_core.specs.Calls.{Tells}
+use Rattle.site_calls.specs.Calls.{Tells}
 use Rattle.site_core.specs.Holds.{CanBegin}
 use Rattle.site_core.specs.Readings.{TellsReadings}
 use Rattle.site_core.specs.Faults.{TellsCauses}

@@ -6,10 +6,11 @@ ghost use Rattle.ckpt_model.specs.Machine.{Machine};
 ghost use Rattle.script_reader.specs.Values.{size_of};
 ghost use Rattle.script_reader.specs.declared.script.Item.TheVariants as item;
 ghost use Rattle.site_stands.specs.Site.{Stands};
-ghost use Rattle.site_core.specs.Calls.{Tells};
+ghost use Rattle.site_calls.specs.Calls.{Tells};
 ghost use Rattle.site_core.specs.Holds.{CanBegin};
-ghost use Rattle.site_core.specs.Follows.{KeepsRun, IsRunFrom, HasStopped, IsActor, IsSameRun};
-ghost use Rattle.site_core.specs.Shown.{setup_of as setup_of_core};
+ghost use Rattle.site_core.specs.Follows.{KeepsRun, IsRunFrom, HasStopped, IsSameRun};
+ghost use Rattle.site_state.specs.Order.{IsActor};
+ghost use Rattle.site_state.specs.Shown.{setup_of as setup_of_core};
 ghost use Rattle.site_core.specs.Readings.{TellsReadings, TellsTimes};
 ghost use Rattle.site_core.specs.Faults.{TellsCauses, IsAccounted, KeepsAccount};
 ghost use Rattle.std.specs.List.{list_all};
@@ -24,7 +25,8 @@ use crate::telling::{Untold, tell};
 use node_device::{Bay, Device, Ran};
 use scr_base::{Actor, Clock, Config, Copies, Items, Memory, Shape, Sink, Step};
 use script_reader::{Item, RunItem, Script, TurnLine};
-use site_core::{Closed, Site, SiteError, Unbegun, stop_devices};
+use site_core::{Closed, Site, Unbegun, stop_devices};
+use site_state::SiteError;
 use std::alloc::Global;
 
 /// Runs the runs of a script over a bay, one after the other, and prints their histories.

@@ -9,7 +9,8 @@ use scr_base::{
     Actor, Config, MemSink, MemSource, Memory, Scheme, Shape, Sink, SinkFailed, Source, Step,
     TickClock,
 };
-use site_core::{Site, Turn};
+use site_core::Site;
+use site_state::Turn;
 use std::alloc::Global;
 use std::test::Fail;
 

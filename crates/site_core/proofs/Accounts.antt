@@ -11,27 +11,28 @@ use Rattle.node_device.specs.Rack.{Rack, states_of}
 use Rattle.ckpt_model.specs.Track.{Track}
 use Rattle.ckpt_model.specs.declared.event.Event.{Event}
 use Rattle.ckpt_model.specs.declared.event.Event.TheVariants as event
-use Rattle.site_core.specs.declared.core_state.Core.{Core}
-use Rattle.site_core.specs.declared.core_state.Stage.{Stage}
-use Rattle.site_core.specs.declared.core_state.Stage.TheVariants as stage
-use Rattle.site_core.specs.declared.error.Trouble.{Trouble}
-use Rattle.site_core.specs.declared.error.Trouble.TheVariants as error
+use Rattle.site_state.specs.declared.run_state.RunState.{RunState}
+use Rattle.site_state.specs.declared.run_state.RunStage.{RunStage}
+use Rattle.site_state.specs.declared.run_state.RunStage.TheVariants as stage
+use Rattle.site_calls.specs.declared.trouble.Trouble.{Trouble}
+use Rattle.site_calls.specs.declared.trouble.Trouble.TheVariants as error
 use Rattle.site_core.specs.declared.site.Site.{Site}
 use Rattle.ckpt_model.specs.declared.event.StopCause.TheVariants as stops
-use Rattle.site_core.specs.Causes.{CallCause, IsCalm, told_trouble, is_told, cause_of}
+use Rattle.site_calls.specs.Causes.{CallCause, IsCalm, told_trouble}
+use Rattle.site_core.specs.Causes.{is_told, cause_of}
 use Rattle.site_core.specs.Follows.{carried, carried_at, CarriesNoMore, Tells, TellsFault, TellsFaults, TellsOrCarries, AccountsBy}
 
 -- ## What a round carries
 
-pub carries_same : (old new : Core) → carried new ≡ carried old → CarriesNoMore old new
+pub carries_same : (old new : RunState) → carried new ≡ carried old → CarriesNoMore old new
 carries_same old new same r is = sym same ∙ is
 
 -- at this stage nothing is carried
-pub none_at : (s : Stage) (c : Core) → carried_at s c.refusal ≡ None → c.stage ≡ s → carried c ≡ None
-none_at s c none at = ap (λ (x : Stage). carried_at x c.refusal) at ∙ none
+pub none_at : (s : RunStage) (c : RunState) → carried_at s c.refusal ≡ None → c.stage ≡ s → carried c ≡ None
+none_at s c none at = ap (λ (x : RunStage). carried_at x c.refusal) at ∙ none
 
 -- a run that was cut carries none
-pub carries_none : (old new : Core) → new ≡ (let x : Core = record old { stage = stage.Over } in x) → CarriesNoMore old new
+pub carries_none : (old new : RunState) → new ≡ (let x : RunState = record old { stage = stage.Over } in x) → CarriesNoMore old new
 carries_none old new is r carries = absurd (cc (carries, ap carried is))
 
 -- ## A turn
@@ -70,7 +71,7 @@ pub across : {D : Type 0} (state : D → DeviceState) (old mid new : Site D) →
 across state old mid new events core same t = record {
   faults = subst (λ (st : ℕ → DeviceState). IsCalm st (states_of state new.bay) ⊎ TellsFault st (states_of state new.bay) old.history.events new.history.events) same
       (subst (λ (es : List Event). IsCalm (states_of state mid.bay) (states_of state new.bay) ⊎ TellsFault (states_of state mid.bay) (states_of state new.bay) es new.history.events) events t.faults);
-  carries = subst (λ (c : Core). CarriesNoMore c new.core) core t.carries;
+  carries = subst (λ (c : RunState). CarriesNoMore c new.core) core t.carries;
 }
 
 -- the run was ended by a call that was refused

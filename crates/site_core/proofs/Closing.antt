@@ -10,7 +10,7 @@ use Rattle.ckpt_model.specs.declared.event.Event.TheVariants as event
 use Rattle.ckpt_model.specs.declared.event.StopCause.{StopCause}
 use Rattle.ckpt_model.specs.declared.event.StopCause.TheVariants as cause
 use Rattle.ckpt_model.specs.Legal.{begins_run, AreOfPrograms, is_stop}
-use Rattle.ckpt_model.specs.Machine.{Machine, Setup, Pending}
+use Rattle.ckpt_model.specs.Machine.{Machine, Setup}
 use Rattle.ckpt_model.specs.Moves.{may, after}
 use Rattle.ckpt_model.specs.Runs.{RunsTo, StepsTo}
 use Rattle.ckpt_model.specs.Stops.{Choice, may_stop, may_make, may_store, may_choose, after_stop, pending_of, is_first_change}
@@ -18,17 +18,16 @@ use Rattle.ckpt_model.proofs.RunLemmas.{run_on}
 use Rattle.model_proper.specs.Fair.{IsFair}
 use Rattle.model_proper.proofs.Stops.{Makes, made_fair}
 use Rattle.model_proper.proofs.Steps.{run_fair}
-use Rattle.site_stands.specs.Described.{is_single}
 use Rattle.site_stands.specs.Site.{SiteStands, NodesStand}
 use Rattle.site_stands.proofs.Safety.Made.{IsAlike, made_first, all_alike, made_safe}
-use Rattle.site_core.specs.declared.core_state.Core.{Core}
-use Rattle.site_core.specs.declared.core_state.Stage.{Stage}
-use Rattle.site_core.specs.declared.core_state.Stage.TheVariants as stage
-use Rattle.site_core.specs.Shown.{setup_of}
-use Rattle.site_core.specs.Waiting.{is_over}
+use Rattle.site_state.specs.declared.run_state.RunState.{RunState}
+use Rattle.site_state.specs.declared.run_state.RunStage.{RunStage}
+use Rattle.site_state.specs.declared.run_state.RunStage.TheVariants as stage
+use Rattle.site_state.specs.Shown.{setup_of}
+use Rattle.site_state.specs.Waiting.{is_over}
 use Rattle.site_core.specs.Left.{LeavesKept, LeavesPrefix, NoLater}
 use Rattle.site_core.specs.Holds.{Leads, LetsBegin, Closes, ClosesAt, goes_well}
-use Rattle.site_core.proofs.Gates.{both}
+use Rattle.site_state.proofs.Gates.{both}
 use Rattle.site_core.proofs.LeftStages.{Remains, nothing_made}
 use Rattle.site_core.proofs.Stands.Cache.{cache_stands}
 use Rattle.site_core.proofs.Stands.Prefix.{prefix_holds}
@@ -58,7 +57,7 @@ makes_of s m cause.Runs (e ∷ es) may_be = absurd (cc may_be)
 makes_of s m (cause.Full node used capacity) (e ∷ es) may_be = absurd (cc may_be)
 makes_of s m cause.Command (e ∷ es) may_be = absurd (cc may_be)
 
-module _ (c : Core) (states : ℕ → DeviceState) (m : Machine) (why : StopCause) (r : Remains c states m why) where
+module _ (c : RunState) (states : ℕ → DeviceState) (m : Machine) (why : StopCause) (r : Remains c states m why) where
   abbrev s : Setup
   s = setup_of c
 
@@ -100,11 +99,11 @@ chosen : (s : Setup) (m : Machine) (why : StopCause) → IsTrue (may_stop m why)
 chosen s m why stop = (no_choice, both _ _ (both _ _ stop (nothing_made s m why)) refl, refl)
 
 -- a run that is over
-abbrev pub over_core : Core → Core
+abbrev pub over_core : RunState → RunState
 over_core c = record c { stage = stage.Over }
 
 -- The run ends so: its events led to a state that allows the stop, and what remains of its datasets there is known.
-pub closes : (first : Machine) (c : Core) (programs : List (List Step)) (states : ℕ → DeviceState) (events events' : List Event) (why : StopCause) (m : Machine)
+pub closes : (first : Machine) (c : RunState) (programs : List (List Step)) (states : ℕ → DeviceState) (events events' : List Event) (why : StopCause) (m : Machine)
     → IsLawful states → IsFair (setup_of c) first → RunsTo (setup_of c) first events m → may_stop m why ≡ true → events' ≡ events ++ event.Stop why ∷ []
     → IsTrue (begins_run c.places (events ++ event.Stop why ∷ [])) × AreOfPrograms programs (events ++ event.Stop why ∷ []) → IsTrue (list_all (λ e. not (is_stop e)) events)
     → (goes_well why ≡ true → LetsBegin (setup_of c) states why m) → Remains c states m why → Leads first (over_core c) programs states events'
@@ -155,9 +154,9 @@ decides_nothing s m why c good no_number may_be =
 
 -- ## A run that is over
 
-pub closed : (first : Machine) (c : Core) (programs : List (List Step)) (states : ℕ → DeviceState) (events : List Event) → is_over c.stage ≡ true → Leads first c programs states events → Closes (setup_of c) states first c.places programs events
+pub closed : (first : Machine) (c : RunState) (programs : List (List Step)) (states : ℕ → DeviceState) (events : List Event) → is_over c.stage ≡ true → Leads first c programs states events → Closes (setup_of c) states first c.places programs events
 closed first c programs states events over leads = at c.stage over leads.closes where
-  at : (x : Stage) → is_over x ≡ true → ClosesAt x (setup_of c) first c.places programs states events → Closes (setup_of c) states first c.places programs events
+  at : (x : RunStage) → is_over x ≡ true → ClosesAt x (setup_of c) first c.places programs states events → Closes (setup_of c) states first c.places programs events
   at stage.Over on h = h
   at stage.Begun on h = absurd (cc on)
   at stage.Storing on h = absurd (cc on)

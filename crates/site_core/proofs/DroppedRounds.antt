@@ -23,46 +23,48 @@ use Rattle.ckpt_model.specs.Answers.{is_fault, is_refused, is_answer, may_answer
 use Rattle.ckpt_model.specs.Runs.{RunsTo, StepsTo}
 use Rattle.ckpt_model.proofs.RunLemmas.{run_on}
 use Rattle.round_core.specs.Seats.{is_complete, first_call, seat_is_valid, owed}
-use Rattle.site_core.specs.declared.cache.Manifest.{Manifest}
-use Rattle.site_core.specs.declared.core_state.Core.{Core}
-use Rattle.site_core.specs.declared.core_state.Drop.{Drop}
-use Rattle.site_core.specs.declared.core_state.Stage.TheVariants as stage
+use Rattle.site_state.specs.declared.cache.Manifest.{Manifest}
+use Rattle.site_state.specs.declared.run_state.RunState.{RunState}
+use Rattle.site_state.specs.declared.run_state.DropStep.{DropStep}
+use Rattle.site_state.specs.declared.run_state.RunStage.TheVariants as stage
 use Rattle.node_device.specs.Rack.{Rack, OnlyAt, states_of}
-use Rattle.site_core.specs.Calls.{KeptAlike}
-use Rattle.site_core.specs.declared.error.Trouble.{Trouble}
-use Rattle.site_core.specs.declared.error.Trouble.TheVariants as error
+use Rattle.site_calls.specs.Calls.{KeptAlike}
+use Rattle.site_calls.specs.declared.trouble.Trouble.{Trouble}
+use Rattle.site_calls.specs.declared.trouble.Trouble.TheVariants as error
 use Rattle.site_core.specs.declared.site.Site.{Site}
 use Rattle.ckpt_model.specs.declared.event.StopCause.TheVariants as cause
-use Rattle.site_core.specs.Causes.{is_device_fault, cause_of}
+use Rattle.site_calls.specs.Causes.{is_device_fault}
+use Rattle.site_core.specs.Causes.{cause_of}
 use Rattle.site_core.specs.Follows.{Keeps, IsCarried}
 use Rattle.node_device.specs.Rack.{states_of}
-use Rattle.site_core.specs.Choosing.{verdict_of}
-use Rattle.site_core.specs.Cores.{closed_core, dropped_answer}
-use Rattle.site_core.specs.Shown.{Contents, running, setup_of}
+use Rattle.site_state.specs.Choosing.{verdict_of}
+use Rattle.site_state.specs.Cores.{closed_core, dropped_answer}
+use Rattle.site_state.specs.Shown.{Contents, running, setup_of}
 use Rattle.site_core.specs.Stored.{Cells, cells_of, contents_of, IsKnown, NoOtherRecords}
-use Rattle.site_core.specs.Holds.{Leads, IsDropCause, IsDropped}
+use Rattle.site_core.specs.Holds.{Leads, IsDropped}
+use Rattle.site_state.specs.Asked.{IsDropCause}
 use Rattle.site_core.proofs.Told.{leads_up, tells_more}
 use Rattle.model_proper.specs.Fair.{IsFair}
 use Rattle.site_core.proofs.Cuts.{cut_round}
 use Rattle.site_core.proofs.Closing.{IsLawful, over_core}
 use Rattle.site_core.proofs.LeftStages.{IsLeft, remains, stage_left, left_alike}
 use Rattle.site_core.proofs.Turns.{leads_so, lawful}
-use Rattle.site_core.proofs.Gates.{both, round_is}
-use Rattle.site_core.proofs.Ranks.{first_is, owed_is}
-use Rattle.site_core.proofs.Rounds.{verdict_is, all_valid_is}
+use Rattle.site_state.proofs.Gates.{both, round_is}
+use Rattle.site_state.proofs.Ranks.{first_is, owed_is}
+use Rattle.site_state.proofs.Rounds.{verdict_is, all_valid_is}
 use Rattle.site_core.proofs.Removing.{dropping_at, dropped_at}
 
 -- ## The machine's step
 
 -- the run's state, with whatever dataset open
-abbrev with_dataset : Contents → Core → Dataset → Machine
+abbrev with_dataset : Contents → RunState → Dataset → Machine
 with_dataset bytes c d = let m : Machine = running bytes c in record m { open_dataset = Some d }
 
 -- the dataset is gone, and the clock's reading is still there
-abbrev closing_core : Core → Core
+abbrev closing_core : RunState → RunState
 closing_core c = record c { stage = stage.Serving; opened = None; phase = phase.Idle; refusal = None }
 
-module _ (c : Core) (bytes : Contents) (d : Dataset) (valid : Bool) (complete : is_complete c.ranks ≡ true) (first : first_call c.ranks ≡ Some (step.Complete valid)) (clear : verdict_of c (step.Complete valid) ≡ None) where
+module _ (c : RunState) (bytes : Contents) (d : Dataset) (valid : Bool) (complete : is_complete c.ranks ≡ true) (first : first_call c.ranks ≡ Some (step.Complete valid)) (clear : verdict_of c (step.Complete valid) ≡ None) where
   call : Step
   call = step.Complete valid
 
@@ -109,13 +111,13 @@ carries (Some (refusal.NameTaken which)) = tt
 
 -- ## The run then
 
-pub dropped_decided : (first : Machine) (c : Core) (programs : List (List Step)) (states : ℕ → DeviceState) (events events' : List Event) (a : Reply) → c.stage ≡ stage.Dropped → a ≡ dropped_answer c.refusal → events' ≡ events ++ event.Decided kind.Complete a ∷ [] → Leads first c programs states events
+pub dropped_decided : (first : Machine) (c : RunState) (programs : List (List Step)) (states : ℕ → DeviceState) (events events' : List Event) (a : Reply) → c.stage ≡ stage.Dropped → a ≡ dropped_answer c.refusal → events' ≡ events ++ event.Decided kind.Complete a ∷ [] → Leads first c programs states events
     → Leads first (closed_core (record c { ranks = map (owed a) c.ranks })) programs states events'
 dropped_decided first c programs states events events' a at is more leads =
     let x = dropped_at first c programs states events at leads in
     let h = x.0 in
     let bytes = contents_of (cells_of states) c in
-    let d : Core = closed_core (record c { ranks = map (owed a) c.ranks }) in
+    let d : RunState = closed_core (record c { ranks = map (owed a) c.ranks }) in
     let step_to = subst (λ (r : Reply). StepsTo (setup_of c) (with_dataset bytes c h.dataset) (event.Decided kind.Complete r) (running bytes (closed_core (record c { ranks = map (owed r) c.ranks })))) (sym is)
     (decided_by c bytes h.dataset h.round.valid h.round.complete h.round.first h.round.clear c.refusal h.round.why) in
     leads_up first d programs states events' refl (record {
@@ -169,7 +171,7 @@ dropped_decided first c programs states events events' a at is more leads =
 -- ## A device ends a removal
 
 -- a device failed at a file that was to go, or at the sync behind it; the devices may have changed meanwhile
-pub cut_dropping : (first : Machine) (c : Core) (programs : List (List Step)) (states after : ℕ → DeviceState) (events events' : List Event) (t : Trouble) (d : Drop) (n : ℕ)
+pub cut_dropping : (first : Machine) (c : RunState) (programs : List (List Step)) (states after : ℕ → DeviceState) (events events' : List Event) (t : Trouble) (d : DropStep) (n : ℕ)
     → IsLawful after → IsFair (setup_of c) first → c.stage ≡ stage.Dropping d n → Leads first c programs states events → is_device_fault t ≡ true → events' ≡ events ++ event.Stop (cause_of t) ∷ [] → (place : ℕ) → OnlyAt place KeptAlike states after → Leads first (over_core c) programs after events'
 cut_dropping first c programs states after events events' t d n law fair at leads fault more place done = pick t fault more where
   pick : (t : Trouble) → is_device_fault t ≡ true → events' ≡ events ++ event.Stop (cause_of t) ∷ [] → Leads first (over_core c) programs after events'
@@ -183,6 +185,6 @@ cut_dropping first c programs states after events events' t d n law fair at lead
   pick (error.Full node used capacity) f e = absurd (cc f)
 
 module _ {D : Type 0} (state : D → DeviceState) (old new : Site D) (t : Trouble) (is : new.history.events ≡ old.history.events ++ event.Stop (cause_of t) ∷ []) (core : new.core ≡ over_core old.core) (programs : new.programs ≡ old.programs) where
-  pub ends_dropping : (d : Drop) (n : ℕ) → old.core.stage ≡ stage.Dropping d n → is_device_fault t ≡ true → (place : ℕ) (bay : Rack D) → new.bay ≡ bay → OnlyAt place KeptAlike (states_of state old.bay) (states_of state bay) → Keeps state old new
+  pub ends_dropping : (d : DropStep) (n : ℕ) → old.core.stage ≡ stage.Dropping d n → is_device_fault t ≡ true → (place : ℕ) (bay : Rack D) → new.bay ≡ bay → OnlyAt place KeptAlike (states_of state old.bay) (states_of state bay) → Keeps state old new
   ends_dropping d n at fault place bay same done tells first base f =
       leads_so state old new t is core programs first (cut_dropping first old.core old.programs (states_of state old.bay) (states_of state new.bay) old.history.events new.history.events t d n (lawful state base.sound new.bay) base.fair at f fault is place (subst (λ (b : Rack D). OnlyAt place KeptAlike (states_of state old.bay) (states_of state b)) (sym same) done))

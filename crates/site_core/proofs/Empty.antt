@@ -10,8 +10,9 @@ use Rattle.ckpt_model.specs.Machine.{Setup, empty_machine}
 use Rattle.scr_base.specs.declared.shape.DataId.{DataId}
 use Rattle.site_stands.specs.Described.{is_single}
 use Rattle.site_stands.specs.Entry.{entry_name, ReadsEntry, mark_in}
-use Rattle.site_core.specs.declared.cache.Manifest.{Manifest}
-use Rattle.site_core.specs.Stored.{cells_of, stored_run, stored_halt, run_number}
+use Rattle.site_state.specs.declared.cache.Manifest.{Manifest}
+use Rattle.site_calls.specs.Numbers.{run_number}
+use Rattle.site_core.specs.Stored.{cells_of, stored_run, stored_halt}
 use Rattle.site_core.specs.Holds.{CanBegin, IsOneOf}
 
 none_of : (X : Type 0) (m : Manifest) → IsOneOf [] m → X

@@ -4,9 +4,9 @@ use Rattle.std.specs.Prelude.{IsTrue, slice_index, not, ◌&&◌, if◌then◌el
 use Rattle.std.proofs.Math.Path.{fun_ext}
 use Rattle.std.proofs.lemmas.List.{get_or_past}
 use Rattle.std.proofs.lemmas.List.FromFn.{length-range_with_len}
-use Rattle.site_core.specs.Shown.{all_files}
+use Rattle.site_state.specs.Shown.{all_files}
 use Rattle.site_core.proofs.Halts.{halt_same, unindexed_same}
-use Rattle.site_core.proofs.Hands.{same_all}
+use Rattle.site_state.proofs.Hands.{same_all}
 use Rattle.std.specs.List.{list_any, list_all}
 use Rattle.std.proofs.lemmas.Bool.{cases_eq}
 use Rattle.std.proofs.lemmas.Option.{slice_get_within}
@@ -25,25 +25,26 @@ use Rattle.ckpt_model.specs.declared.event.StopCause.TheVariants as cause
 use Rattle.ckpt_model.specs.Machine.{Machine, Setup, Kept}
 use Rattle.ckpt_model.specs.Stops.{after_stop}
 use Rattle.model_proper.specs.Fair.{IsFair}
-use Rattle.site_core.specs.Waiting.{is_over}
+use Rattle.site_state.specs.Waiting.{is_over}
 use Rattle.round_core.specs.declared.seat.Seat.{Seat}
 use Rattle.round_core.specs.Seats.{is_complete}
-use Rattle.site_core.specs.declared.cache.Cached.{Cached}
-use Rattle.site_core.specs.declared.cache.Manifest.{Manifest}
-use Rattle.site_core.specs.declared.cache.Mark.{Mark}
-use Rattle.site_core.specs.declared.cache.Mark.TheVariants as mark
-use Rattle.site_core.specs.declared.core_state.Core.{Core}
-use Rattle.site_core.specs.declared.core_state.Stage.{Stage}
-use Rattle.site_core.specs.declared.core_state.Stage.TheVariants as stage
-use Rattle.site_core.specs.Shown.{Contents, running, stopped, setup_of, kept_of, mends}
-use Rattle.site_core.specs.Choosing.{AscendFrom, seals, is_at_rest}
-use Rattle.site_core.specs.Stored.{Cells, cells_of, contents_in, contents_of, is_named, place_of_rank, file_name, FilesStand, FileStands, RecordsStand, RecordIs, IsAmong, IsKnown, IsWell, IsOfSite, FilesHold, NoFutureFiles, NoOtherRecords, IsFuture}
+use Rattle.site_state.specs.declared.cache.Cached.{Cached}
+use Rattle.site_state.specs.declared.cache.Manifest.{Manifest}
+use Rattle.site_state.specs.declared.cache.Mark.{Mark}
+use Rattle.site_state.specs.declared.cache.Mark.TheVariants as mark
+use Rattle.site_state.specs.declared.run_state.RunState.{RunState}
+use Rattle.site_state.specs.declared.run_state.RunStage.{RunStage}
+use Rattle.site_state.specs.declared.run_state.RunStage.TheVariants as stage
+use Rattle.site_state.specs.Shown.{Contents, running, stopped, setup_of, kept_of, mends}
+use Rattle.site_state.specs.Choosing.{AscendFrom, seals, is_at_rest}
+use Rattle.site_core.specs.Stored.{cells_of, contents_in, contents_of, is_named, place_of_rank, file_name, FilesStand, FileStands, RecordsStand, RecordIs, IsAmong, IsKnown, IsWell, IsOfSite, FilesHold, NoFutureFiles, NoOtherRecords, IsFuture}
 use Rattle.site_core.specs.Holds.{Leads, CanBegin, IsOneOf, settled_set, IsUp, IsPending, IsFileOf, NoRecordYet, WorkIs}
 use Rattle.site_core.proofs.Told.{is_up, led, at_up, tells_end}
 use Rattle.site_core.proofs.Frames.{IsNamed, named, is_place, data-same, files-same, file_no_record, AreFilesSame}
 use Rattle.site_core.proofs.Names.{parts-same}
-use Rattle.site_core.proofs.Puts.{row_named, row_rank, few_rows, kept_other, few_nodes, rank_place_low, place_is}
-use Rattle.site_core.proofs.Rounds.{may_end}
+use Rattle.site_core.proofs.Puts.{row_named, row_rank, few_rows, kept_other, rank_place_low, place_is}
+use Rattle.site_state.proofs.Shapes.{few_nodes}
+use Rattle.site_state.proofs.Rounds.{may_end}
 use Rattle.site_core.proofs.LeftStages.{remains, stage_left}
 use Rattle.site_core.proofs.Closing.{IsLawful, over_core, closes, plain_choice, decides_nothing}
 
@@ -52,7 +53,7 @@ some_same x y e = cc
 
 -- ## The run's last event
 
-rest-mark : (m : Mark) → Rattle.site_core.specs.Shown.is_to_mend m ≡ false → Rattle.site_core.specs.Choosing.is_being_sealed m ≡ false → is_at_rest m ≡ true
+rest-mark : (m : Mark) → Rattle.site_state.specs.Shown.is_to_mend m ≡ false → Rattle.site_state.specs.Choosing.is_being_sealed m ≡ false → is_at_rest m ≡ true
 rest-mark mark.Mending a b = absurd (cc a)
 rest-mark mark.Sealing a b = absurd (cc b)
 rest-mark mark.Settled a b = refl
@@ -71,7 +72,7 @@ all-settled (x ∷ xs) a b =
 -- ## The stop
 
 -- a run whose last call was End: nothing but the files of an open dataset may be pending, and each dataset in cache is settled
-record IsAtEnd (c : Core) (states : ℕ → DeviceState) (m : Machine) : Type 0 where
+record IsAtEnd (c : RunState) (states : ℕ → DeviceState) (m : Machine) : Type 0 where
   pub is : m ≡ stopped (contents_of (cells_of states) c) c
   pub well : IsWell c
   pub files : FilesHold c (cells_of states)
@@ -102,16 +103,16 @@ among-one [] i x at = absurd (cc at)
 among-one (y ∷ ys) zero x at = ap Some (ap (λ (z : Cached). z.manifest) (some_same y x at))
 among-one (y ∷ ys) (suc i) x at = among-one ys i x at
 
-at-rest-at : (xs : List Cached) (i : ℕ) (x : Cached) → list_all (λ (y : Cached). is_at_rest y.mark) xs ≡ true → slice_get xs i ≡ Some x → Rattle.site_core.specs.Choosing.is_being_sealed x.mark ≡ false
+at-rest-at : (xs : List Cached) (i : ℕ) (x : Cached) → list_all (λ (y : Cached). is_at_rest y.mark) xs ≡ true → slice_get xs i ≡ Some x → Rattle.site_state.specs.Choosing.is_being_sealed x.mark ≡ false
 at-rest-at [] i x all at = absurd (cc at)
 at-rest-at (y ∷ ys) zero x all at = unsealed x.mark (ap (λ (z : Cached). is_at_rest z.mark) (sym (some_same y x at)) ∙ (Rattle.site_core.proofs.Told.and_true (is_at_rest y.mark) (list_all (λ (z : Cached). is_at_rest z.mark) ys) all).0) where
-  unsealed : (m : Mark) → is_at_rest m ≡ true → Rattle.site_core.specs.Choosing.is_being_sealed m ≡ false
+  unsealed : (m : Mark) → is_at_rest m ≡ true → Rattle.site_state.specs.Choosing.is_being_sealed m ≡ false
   unsealed mark.Mending e = absurd (cc e)
   unsealed mark.Sealing e = absurd (cc e)
   unsealed mark.Settled e = refl
 at-rest-at (y ∷ ys) (suc i) x all at = at-rest-at ys i x (Rattle.site_core.proofs.Told.and_true (is_at_rest y.mark) (list_all (λ (z : Cached). is_at_rest z.mark) ys) all).1 at
 
-module _ (c : Core) (states after : ℕ → DeviceState) (m : Machine) (h : IsAtEnd c states m) (crash : (p : ℕ) → p ≤ 32 → Crashes (states p) (after p)) (tells : (p : ℕ) → p ≤ 32 → (after p).tells ≡ true) where
+module _ (c : RunState) (states after : ℕ → DeviceState) (m : Machine) (h : IsAtEnd c states m) (crash : (p : ℕ) → p ≤ 32 → Crashes (states p) (after p)) (tells : (p : ℕ) → p ≤ 32 → (after p).tells ≡ true) where
   -- what was at rest is as it was
   stays : (p : ℕ) (q : List ℕ) → p ≤ 32 → (p < c.shape.nodes → IsPending stage.Serving c q → ⊥) → cells_of after p q ≡ cells_of states p q
   stays p q low calm = rest_leaves ((states p).file q) ((after p).file q).now (h.quiet p q low calm) ((crash p low).outcome (tells p low) q)
@@ -235,7 +236,7 @@ module _ (c : Core) (states after : ℕ → DeviceState) (m : Machine) (h : IsAt
         sets = sets;
         quiet = λ p q low. (crash p low).at_rest q;
         store = record {
-          stored = ap (λ (f : List ℕ → Option (List ℕ)). Rattle.site_core.specs.Stored.run_number (Rattle.gated_record.specs.Pair.pair_value (codes "run") f)) prefix_same ∙ h.files.stored ∙ sym (ap (λ (x : Machine). x.run) h.is);
+          stored = ap (λ (f : List ℕ → Option (List ℕ)). Rattle.site_calls.specs.Numbers.run_number (Rattle.gated_record.specs.Pair.pair_value (codes "run") f)) prefix_same ∙ h.files.stored ∙ sym (ap (λ (x : Machine). x.run) h.is);
           rise = subst (λ (xs : List Cached). AscendFrom 1 xs) (sym (settled-again c.kept h.settled)) h.well.rise;
           sets_are = λ x one. subst (λ (r : ℕ). IsOfSite c.shape r x) (sym (ap (λ (y : Machine). y.run) h.is)) (h.well.sets x (inr (in_cache x one)));
           files = λ x one. subst (λ (ps : List ℕ). FilesStand (cells_of after) ps c.shape.ranks x) h.well.places (kept_stands x (in_cache x one));
@@ -263,16 +264,16 @@ module _ (c : Core) (states after : ℕ → DeviceState) (m : Machine) (h : IsAt
 -- ## The run's last event
 
 -- the stop of a run whose ranks all ended decides nothing
-stop_is : (s : Setup) (bytes : Contents) (c : Core) (entries : List Bool) (took : Bool) → after_stop s (running bytes c) (plain_choice entries took) ≡ stopped bytes c
+stop_is : (s : Setup) (bytes : Contents) (c : RunState) (entries : List Bool) (took : Bool) → after_stop s (running bytes c) (plain_choice entries took) ≡ stopped bytes c
 stop_is s bytes c entries took = refl
 
-pub ended : (first : Machine) (c : Core) (programs : List (List Step)) (states : ℕ → DeviceState) (events events' : List Event) → IsLawful states → IsFair (setup_of c) first → c.stage ≡ stage.Serving → Leads first c programs states events
+pub ended : (first : Machine) (c : RunState) (programs : List (List Step)) (states : ℕ → DeviceState) (events events' : List Event) → IsLawful states → IsFair (setup_of c) first → c.stage ≡ stage.Serving → Leads first c programs states events
     → is_complete c.ranks ≡ true → list_all (λ (seat : Seat). seat.ended) c.ranks ≡ true → events' ≡ events ++ event.Stop cause.Ended ∷ [] → Leads first (over_core c) programs states events'
 ended first c programs states events events' law fair at leads complete all more =
     let h = led first c programs states events (ap is_up at) leads in
-    let working : WorkIs stage.Serving c states = subst (λ (s : Stage). WorkIs s c states) at h.working in
-    let none : NoRecordYet stage.Serving c (cells_of states) = subst (λ (s : Stage). NoRecordYet s c (cells_of states)) at h.unrecorded in
-    let quiet = subst (λ (s : Stage). (p : ℕ) (q : List ℕ) → p ≤ 32 → (p < c.shape.nodes → IsPending s c q → ⊥) → IsAtRest ((states p).file q)) at h.quiet in
+    let working : WorkIs stage.Serving c states = subst (λ (s : RunStage). WorkIs s c states) at h.working in
+    let none : NoRecordYet stage.Serving c (cells_of states) = subst (λ (s : RunStage). NoRecordYet s c (cells_of states)) at h.unrecorded in
+    let quiet = subst (λ (s : RunStage). (p : ℕ) (q : List ℕ) → p ≤ 32 → (p < c.shape.nodes → IsPending s c q → ⊥) → IsAtRest ((states p).file q)) at h.quiet in
     let bytes = contents_of (cells_of states) c in
     let end : IsAtEnd c states (stopped bytes c) = record { is = refl; well = h.well; files = h.files; quiet = quiet; unrecorded = none; settled = all-settled c.kept working.0 working.1 } in
     let up : IsUp c states (running bytes c) = record { is = refl; well = h.well; files = h.files; quiet = h.quiet; unrecorded = h.unrecorded; working = h.working } in

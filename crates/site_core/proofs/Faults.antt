@@ -1,6 +1,6 @@
 -- The faults that a history tells: each has its cause, and is told once.
-use Rattle.std.proofs.Common.{◌≡◌, ◌≢◌, ◌⊎◌, inl, inr, ◌≤◌, ◌<◌, ◌+◌, ◌-◌, ◌^◌, ℕ, true, List, [], ◌∷◌, ◌++◌, length, get_or, Option, Some, None, refl, sym, ap, ◌∙◌, subst, append-nil, length-append, arith}
-use Rattle.std.specs.Prelude.{AllPairs, Contains, filter_map}
+use Rattle.std.proofs.Common.{◌≡◌, ◌⊎◌, inl, inr, ◌≤◌, ◌<◌, ◌+◌, ◌-◌, ◌^◌, ℕ, true, List, [], ◌∷◌, ◌++◌, length, get_or, Option, Some, None, refl, sym, ap, ◌∙◌, subst, append-nil, length-append, arith}
+use Rattle.std.specs.Prelude.{AllPairs, Contains}
 use Rattle.std.proofs.lemmas.List.{get_or_append_left, get_or-append-add}
 use Rattle.std.proofs.lemmas.List.Quantifiers.{all_pairs_push}
 use Rattle.std.proofs.lemmas.List.Elements.{Contains-get_or, Contains-append_cases, Contains-push_cases, filter_map-append}
@@ -10,7 +10,6 @@ use Rattle.scr_base.specs.declared.actor.Actor.{Actor}
 use Rattle.scr_base.specs.declared.actor.Actor.TheVariants as actor
 use Rattle.scr_base.specs.declared.answers.Refusal.{Refusal}
 use Rattle.scr_base.specs.declared.answers.Refusal.TheVariants as refusal
-use Rattle.scr_base.specs.declared.answers.Reply.{Reply}
 use Rattle.scr_base.specs.declared.answers.Reply.TheVariants as replies
 use Rattle.node_device.specs.Calls.{Crashes}
 use Rattle.node_device.specs.DeviceState.{DeviceState, IsSound}
@@ -19,18 +18,13 @@ use Rattle.ckpt_model.specs.Answers.{is_fault}
 use Rattle.ckpt_model.specs.declared.event.Event.{Event}
 use Rattle.ckpt_model.specs.declared.event.Event.TheVariants as event
 use Rattle.ckpt_model.specs.declared.event.Kind.{Kind}
-use Rattle.ckpt_model.specs.declared.event.Kind.TheVariants as kinds
 use Rattle.ckpt_model.specs.declared.event.StopCause.TheVariants as stops
-use Rattle.site_core.specs.declared.core_state.Core.{Core}
-use Rattle.site_core.specs.declared.core_state.Stage.{Stage}
-use Rattle.site_core.specs.declared.core_state.Stage.TheVariants as stage
 use Rattle.site_core.specs.declared.site.Site.{Site}
-use Rattle.site_core.specs.Waiting.{is_over}
-use Rattle.site_core.specs.Causes.{IsFault, IsCalm}
+use Rattle.site_calls.specs.Causes.{IsFault, IsCalm}
 use Rattle.site_core.specs.Faults.{Fault, fault_of, faults_told, IsMetBetween, AreTwo, IsNoneOf, TellsCauses, IsAccounted, KeepsAccount}
-use Rattle.site_core.specs.Follows.{Each, IsOf, IsCaused, IsCarried, IsRefusedFor, carried, Tells, TellsBy, TellsFault, TellsFaults, TakesUp, TellsOrCarries, AccountsBy, CarriesStill, DecidesBy, BecomesOf, KeepsCarried, IsTold}
+use Rattle.site_core.specs.Follows.{Each, IsOf, IsCaused, IsRefusedFor, carried, TellsBy, TellsFaults, TakesUp, TellsOrCarries, AccountsBy, BecomesOf, KeepsCarried, IsTold}
 use Rattle.site_core.proofs.Carrying.{over_none, is_longer}
-use Rattle.site_core.proofs.Sounds.{below_or_not, sound_of}
+use Rattle.site_calls.proofs.Sounds.{below_or_not, sound_of}
 
 -- ## Counts
 

@@ -9,8 +9,8 @@ use Rattle.node_device.specs.File.{bytes_of}
 use Rattle.dataset_desc.specs.declared.desc.Desc.{Desc}
 use Rattle.member_store.specs.Names.{record_name, part_name, IsPlace}
 use Rattle.member_store.specs.declared.part.Part.TheVariants.{File}
-use Rattle.site_core.specs.declared.cache.Manifest.{Manifest}
-use Rattle.site_core.specs.Stored.{Cells, contents_in, contents_of, is_named, place_of_rank, file_name, FilesStand, FileStands, RecordsStand, RecordIs, IsAmong, IsKnown, NoOtherRecords, IsFuture, NoFutureFiles, NoMoreFiles, IsWell, IsOfSite, FilesHold, stored_run, ChangesFile}
+use Rattle.site_state.specs.declared.cache.Manifest.{Manifest}
+use Rattle.site_core.specs.Stored.{Cells, contents_in, is_named, place_of_rank, file_name, NoOtherRecords, IsFuture, NoFutureFiles, stored_run, ChangesFile}
 use Rattle.site_core.proofs.Names.{part_no_record, parts-same}
 
 -- ## Numbers
@@ -101,4 +101,4 @@ module _ (old new : Cells) (places : List ℕ) (ranks place : ℕ) (which : Data
   prefix_stays low = fun_ext (λ q. change.elsewhere 32 q (λ same. absurd (omega (arith, same, low))))
 
   pub stored_stays : place < 32 → stored_run new ≡ stored_run old
-  stored_stays low = ap (λ (f : List ℕ → Option (List ℕ)). Rattle.site_core.specs.Stored.run_number (Rattle.gated_record.specs.Pair.pair_value (codes "run") f)) (prefix_stays low)
+  stored_stays low = ap (λ (f : List ℕ → Option (List ℕ)). Rattle.site_calls.specs.Numbers.run_number (Rattle.gated_record.specs.Pair.pair_value (codes "run") f)) (prefix_stays low)

@@ -13,21 +13,23 @@ use Rattle.member_store.specs.declared.part.Part.{Part}
 use Rattle.ckpt_model.specs.declared.event.Event.TheVariants as event
 use Rattle.ckpt_model.specs.declared.event.StopCause.TheVariants as stops
 use Rattle.round_core.specs.declared.seat.Seat.{Seat}
-use Rattle.site_core.specs.declared.cache.Manifest.{Manifest}
-use Rattle.site_core.specs.declared.core_moves.Spot.{Spot}
-use Rattle.site_core.specs.declared.core_state.Core.{Core}
-use Rattle.site_core.specs.declared.core_state.Stage.{Stage}
-use Rattle.site_core.specs.declared.core_state.Stage.TheVariants as stage
-use Rattle.site_core.specs.declared.error.Trouble.{Trouble}
-use Rattle.site_core.specs.declared.error.Trouble.TheVariants as error
+use Rattle.site_state.specs.declared.cache.Manifest.{Manifest}
+use Rattle.site_state.specs.declared.run_moves.Spot.{Spot}
+use Rattle.site_state.specs.declared.run_state.RunState.{RunState}
+use Rattle.site_state.specs.declared.run_state.RunStage.{RunStage}
+use Rattle.site_state.specs.declared.run_state.RunStage.TheVariants as stage
+use Rattle.site_calls.specs.declared.trouble.Trouble.{Trouble}
+use Rattle.site_calls.specs.declared.trouble.Trouble.TheVariants as error
 use Rattle.site_core.specs.declared.site.Site.{Site}
-use Rattle.site_core.specs.Ahead.{IsToRecord}
-use Rattle.site_core.specs.Causes.{CallCause, IsFull, told_trouble, is_told, cause_of}
-use Rattle.site_core.specs.Choosing.{local_verdict_of, is_to_save}
-use Rattle.site_core.specs.Cores.{IsSpot, saved_in}
-use Rattle.site_core.specs.Numbers.{Way}
-use Rattle.site_core.specs.Steps.{IsNextLocal}
-use Rattle.site_core.specs.Writes.{IsWrite, PassesOn, IsFileWrite, StepWrites, RankWrites, IsRecordWrite, IsGateWrite, EncoderWrites, MayWayWrite}
+use Rattle.site_state.specs.Ahead.{IsToRecord}
+use Rattle.site_calls.specs.Causes.{CallCause, IsFull, told_trouble}
+use Rattle.site_core.specs.Causes.{is_told, cause_of}
+use Rattle.site_state.specs.Choosing.{local_verdict_of, is_to_save}
+use Rattle.site_state.specs.Cores.{IsSpot, saved_in}
+use Rattle.site_calls.specs.Numbers.{Way}
+use Rattle.site_state.specs.Steps.{IsNextLocal}
+use Rattle.site_calls.specs.Writes.{IsWrite, PassesOn, MayWayWrite}
+use Rattle.site_core.specs.Writes.{IsFileWrite, StepWrites, RankWrites, IsRecordWrite, IsGateWrite, EncoderWrites}
 use Rattle.site_core.specs.Follows.{carried, IsOfFull, IsOfFault, TellsOf}
 use Rattle.site_core.proofs.LocalSteps.{same_seat}
 
@@ -52,19 +54,19 @@ at_prefix way p n a k (inr w) = w.1
 -- ## A rank's next step
 
 -- it is one
-same_call : (programs : List (List Step)) (c : Core) (rank : ℕ) (a b : Step) → IsNextLocal programs c rank a → IsNextLocal programs c rank b → a ≡ b
+same_call : (programs : List (List Step)) (c : RunState) (rank : ℕ) (a b : Step) → IsNextLocal programs c rank a → IsNextLocal programs c rank b → a ≡ b
 same_call programs c rank a b m n =
     let seat : m.seat ≡ n.seat = same_seat c.ranks rank m.seat n.seat m.is n.is in
     some_same a b (sym (subst (λ (s : Seat). slice_get (unwrap_or (slice_get programs rank) []) ((s.number + 1) - 1) ≡ Some a) seat m.of_program) ∙ n.of_program)
 
-pub step_writes : (programs : List (List Step)) (c : Core) (rank : ℕ) (call : Step) (p : ℕ) (n : List ℕ) (a k : ℕ) → IsNextLocal programs c rank call → RankWrites programs c rank p n a k → StepWrites c rank call p n a k
+pub step_writes : (programs : List (List Step)) (c : RunState) (rank : ℕ) (call : Step) (p : ℕ) (n : List ℕ) (a k : ℕ) → IsNextLocal programs c rank call → RankWrites programs c rank p n a k → StepWrites c rank call p n a k
 step_writes programs c rank call p n a k next w = subst (λ (s : Step). StepWrites c rank s p n a k) (same_call programs c rank w.call call w.next next) w.writes
 
-pub step_clear : (programs : List (List Step)) (c : Core) (rank : ℕ) (call : Step) (p : ℕ) (n : List ℕ) (a k : ℕ) → IsNextLocal programs c rank call → RankWrites programs c rank p n a k → local_verdict_of c rank call ≡ None
+pub step_clear : (programs : List (List Step)) (c : RunState) (rank : ℕ) (call : Step) (p : ℕ) (n : List ℕ) (a k : ℕ) → IsNextLocal programs c rank call → RankWrites programs c rank p n a k → local_verdict_of c rank call ≡ None
 step_clear programs c rank call p n a k next w = subst (λ (s : Step). local_verdict_of c rank s ≡ None) (same_call programs c rank w.call call w.next next) w.clear
 
 -- a rank's file stands in one place
-pub file_write : (c : Core) (rank file from bytes : ℕ) (spot : Spot) (p : ℕ) (n : List ℕ) (a k : ℕ) → IsSpot c rank file spot → IsFileWrite c rank file from bytes p n a k → IsWrite spot.place (part_name spot.which spot.node spot.part) from bytes p n a k
+pub file_write : (c : RunState) (rank file from bytes : ℕ) (spot : Spot) (p : ℕ) (n : List ℕ) (a k : ℕ) → IsSpot c rank file spot → IsFileWrite c rank file from bytes p n a k → IsWrite spot.place (part_name spot.which spot.node spot.part) from bytes p n a k
 file_write c rank file from bytes spot p n a k is w =
     let mine = w.spot in
     let its = w.is_spot in
@@ -79,25 +81,25 @@ file_write c rank file from bytes spot p n a k is w =
 
 -- ## The encoder
 
-pub record_write : (c : Core) (node place : ℕ) (m : Manifest) (p : ℕ) (n : List ℕ) (a k : ℕ) → slice_get c.places node ≡ Some place → c.opened ≡ Some m → IsRecordWrite c node p n a k → IsWrite place (record_name m.desc.which node) 8 (8 + length (member_body m.desc node m.files)) p n a k
+pub record_write : (c : RunState) (node place : ℕ) (m : Manifest) (p : ℕ) (n : List ℕ) (a k : ℕ) → slice_get c.places node ≡ Some place → c.opened ≡ Some m → IsRecordWrite c node p n a k → IsWrite place (record_name m.desc.which node) 8 (8 + length (member_body m.desc node m.files)) p n a k
 record_write c node place m p n a k home opened w =
     let set : w.set ≡ m = some_same w.set m (sym w.opened ∙ opened) in
     (some_same p place (sym w.home ∙ home), w.name ∙ ap (λ (x : Manifest). record_name x.desc.which node) set, w.at, w.count ∙ ap (λ (x : Manifest). 8 + length (member_body x.desc node x.files)) set)
 
-pub to_record_write : (c : Core) (node place : ℕ) (m : Manifest) (p : ℕ) (n : List ℕ) (a k : ℕ) → IsToRecord c.stage node → slice_get c.places node ≡ Some place → c.opened ≡ Some m → EncoderWrites c.stage c p n a k → IsWrite place (record_name m.desc.which node) 8 (8 + length (member_body m.desc node m.files)) p n a k
-to_record_write c node place m p n a k (inl saving) home opened w = record_write c node place m p n a k home opened (subst (λ (s : Stage). EncoderWrites s c p n a k) saving w)
-to_record_write c node place m p n a k (inr (serving, first)) home opened w = record_write c node place m p n a k home opened (subst (λ (x : ℕ). IsRecordWrite c x p n a k) (sym first) (subst (λ (s : Stage). EncoderWrites s c p n a k) serving w).1)
+pub to_record_write : (c : RunState) (node place : ℕ) (m : Manifest) (p : ℕ) (n : List ℕ) (a k : ℕ) → IsToRecord c.stage node → slice_get c.places node ≡ Some place → c.opened ≡ Some m → EncoderWrites c.stage c p n a k → IsWrite place (record_name m.desc.which node) 8 (8 + length (member_body m.desc node m.files)) p n a k
+to_record_write c node place m p n a k (inl saving) home opened w = record_write c node place m p n a k home opened (subst (λ (s : RunStage). EncoderWrites s c p n a k) saving w)
+to_record_write c node place m p n a k (inr (serving, first)) home opened w = record_write c node place m p n a k home opened (subst (λ (x : ℕ). IsRecordWrite c x p n a k) (sym first) (subst (λ (s : RunStage). EncoderWrites s c p n a k) serving w).1)
 
-pub record_to_write : (c : Core) (node place : ℕ) (m : Manifest) (p : ℕ) (n : List ℕ) (a k : ℕ) → IsToRecord c.stage node → (c.stage ≡ stage.Serving → is_to_save c ≡ true) → slice_get c.places node ≡ Some place → c.opened ≡ Some m → IsWrite place (record_name m.desc.which node) 8 (8 + length (member_body m.desc node m.files)) p n a k → EncoderWrites c.stage c p n a k
+pub record_to_write : (c : RunState) (node place : ℕ) (m : Manifest) (p : ℕ) (n : List ℕ) (a k : ℕ) → IsToRecord c.stage node → (c.stage ≡ stage.Serving → is_to_save c ≡ true) → slice_get c.places node ≡ Some place → c.opened ≡ Some m → IsWrite place (record_name m.desc.which node) 8 (8 + length (member_body m.desc node m.files)) p n a k → EncoderWrites c.stage c p n a k
 record_to_write c node place m p n a k at asked home opened this = pick at where
   one : IsRecordWrite c node p n a k
   one = record { set = m; opened = opened; home = home ∙ ap (λ (x : ℕ). Some x) (sym this.0); name = this.1; at = this.2; count = this.3 }
 
   pick : IsToRecord c.stage node → EncoderWrites c.stage c p n a k
-  pick (inl saving) = subst (λ (s : Stage). EncoderWrites s c p n a k) (sym saving) one
-  pick (inr (serving, first)) = subst (λ (s : Stage). EncoderWrites s c p n a k) (sym serving) (asked serving, subst (λ (x : ℕ). IsRecordWrite c x p n a k) first one)
+  pick (inl saving) = subst (λ (s : RunStage). EncoderWrites s c p n a k) (sym saving) one
+  pick (inr (serving, first)) = subst (λ (s : RunStage). EncoderWrites s c p n a k) (sym serving) (asked serving, subst (λ (x : ℕ). IsRecordWrite c x p n a k) first one)
 
-pub gate_write : (c : Core) (node gate place : ℕ) (which : DataId) (p : ℕ) (n : List ℕ) (a k : ℕ) → slice_get c.places node ≡ Some place → saved_in c.opened c.kept ≡ Some which → IsGateWrite c node gate p n a k → IsWrite place (record_name which node) gate 1 p n a k
+pub gate_write : (c : RunState) (node gate place : ℕ) (which : DataId) (p : ℕ) (n : List ℕ) (a k : ℕ) → slice_get c.places node ≡ Some place → saved_in c.opened c.kept ≡ Some which → IsGateWrite c node gate p n a k → IsWrite place (record_name which node) gate 1 p n a k
 gate_write c node gate place which p n a k home saved w = (some_same p place (sym w.home ∙ home), w.name ∙ ap (λ (x : DataId). record_name x node) (some_same w.which which (sym w.saved ∙ saved)), w.at, w.count)
 
 -- ## What is told of a call that was refused

@@ -10,8 +10,9 @@ use Rattle.gated_record.specs.PairStages.{IsCopyName}
 use Rattle.halt_file.specs.Stores.{halt_now}
 use Rattle.ckpt_model.specs.Machine.{Machine, Setup, Stage as Place}
 use Rattle.site_stands.specs.Entry.{entry_name, ReadsEntry, mark_in}
-use Rattle.site_core.specs.Shown.{Contents, kept_of}
-use Rattle.site_core.specs.Stored.{cells_of, stored_run, run_number, IsOfSite, NoFutureFiles}
+use Rattle.site_state.specs.Shown.{Contents, kept_of}
+use Rattle.site_calls.specs.Numbers.{run_number}
+use Rattle.site_core.specs.Stored.{cells_of, stored_run, IsOfSite, NoFutureFiles}
 use Rattle.site_core.specs.Holds.{CanBegin, IsQuiet, IsOneOf, settled_set}
 use Rattle.site_core.proofs.Halts.{no_run_file}
 use Rattle.site_core.proofs.Stored.{others_after, future_after, contents_after, files_after, records_after}

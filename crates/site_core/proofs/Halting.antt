@@ -12,16 +12,19 @@ use Rattle.ckpt_model.specs.Machine.{Machine}
 use Rattle.ckpt_model.specs.Questions.{is_running}
 use Rattle.ckpt_model.specs.Steps.{is_between, is_begun}
 use Rattle.ckpt_model.specs.Stops.{may_stop}
-use Rattle.site_core.specs.declared.core_state.Core.{Core}
-use Rattle.site_core.specs.declared.core_state.Stage.{Stage}
-use Rattle.site_core.specs.declared.core_state.Stage.TheVariants as stage
+use Rattle.site_state.specs.declared.run_state.RunState.{RunState}
+use Rattle.site_state.specs.declared.run_state.RunStage.{RunStage}
+use Rattle.site_state.specs.declared.run_state.RunStage.TheVariants as stage
 use Rattle.model_proper.specs.Fair.{IsFair}
-use Rattle.site_core.specs.Shown.{setup_of}
-use Rattle.site_core.specs.Holds.{HoldsAt, ToldAt, IsSoFar, Leads}
-use Rattle.site_core.specs.Waiting.{is_over}
-use Rattle.site_core.proofs.Closing.{IsLawful, closes}
+use Rattle.site_state.specs.Shown.{setup_of}
+use Rattle.site_stands.specs.Site.{SiteStands}
+use Rattle.site_stands.proofs.Safety.Made.{made_safe}
+use Rattle.model_proper.proofs.Steps.{run_fair}
+use Rattle.site_core.specs.Holds.{HoldsAt, ToldAt, IsSoFar, Leads, IsUnderWay}
+use Rattle.site_state.specs.Waiting.{is_over}
+use Rattle.site_core.proofs.Closing.{IsLawful, closes, remains_stand}
 use Rattle.site_core.proofs.Told.{tells_end}
-use Rattle.site_core.proofs.LeftStages.{stage_left, remains}
+use Rattle.site_core.proofs.LeftStages.{Remains, stage_left, remains, nothing_made}
 
 one_of : (a b c : Bool) → a ≡ true → a || b || c ≡ true
 one_of true b c e = refl
@@ -47,7 +50,7 @@ running_may : (m : Machine) → is_running m.stage ≡ true → may_stop m cause
 running_may m at = third_of (is_between m.stage) (is_begun m.stage) (is_running m.stage) at
 
 -- the script may stop a run that isn't over
-may_halt : (s : Stage) (c : Core) (states : ℕ → DeviceState) (m : Machine) → is_over s ≡ false → HoldsAt s c states m → may_stop m cause.Script ≡ true
+may_halt : (s : RunStage) (c : RunState) (states : ℕ → DeviceState) (m : Machine) → is_over s ≡ false → HoldsAt s c states m → may_stop m cause.Script ≡ true
 may_halt stage.Begun c states m on h = between_may m (ap is_between h.begins.between)
 may_halt stage.Storing c states m on h = between_may m (ap is_between h.between)
 may_halt stage.Looking c states m on h = begun_may m (ap (λ (x : Machine). is_begun x.stage) h.is)
@@ -68,7 +71,7 @@ first_end places programs events none = subst (λ (es : List Event). IsEnding pl
 later_end : (places : List ℕ) (programs : List (List Step)) (events : List Event) → IsSoFar places programs events → IsEnding places programs events (event.Stop cause.Script)
 later_end places programs events so_far = (tells_end places programs events (event.Stop cause.Script) so_far tt, so_far.goes_on)
 
-ending : (s : Stage) (places : List ℕ) (programs : List (List Step)) (events : List Event) → is_over s ≡ false → ToldAt s places programs events → IsEnding places programs events (event.Stop cause.Script)
+ending : (s : RunStage) (places : List ℕ) (programs : List (List Step)) (events : List Event) → is_over s ≡ false → ToldAt s places programs events → IsEnding places programs events (event.Stop cause.Script)
 ending stage.Begun places programs events on told = first_end places programs events told
 ending stage.Storing places programs events on told = first_end places programs events told
 ending stage.Looking places programs events on told = later_end places programs events told
@@ -79,13 +82,33 @@ ending (stage.Dropping d n) places programs events on told = later_end places pr
 ending stage.Dropped places programs events on told = later_end places programs events told
 ending stage.Over places programs events on told = absurd (cc on)
 
-pub halts : (first : Machine) (c : Core) (programs : List (List Step)) (states : ℕ → DeviceState) (events events' : List Event)
+pub halts : (first : Machine) (c : RunState) (programs : List (List Step)) (states : ℕ → DeviceState) (events events' : List Event)
     → IsLawful states → IsFair (setup_of c) first → is_over c.stage ≡ false → events' ≡ events ++ event.Stop cause.Script ∷ [] → Leads first c programs states events → Leads first (record c { stage = stage.Over }) programs states events'
 halts first c programs states events events' law fair on more leads =
     let end = ending c.stage c.places programs events on leads.told in
     closes first c programs states events events' cause.Script leads.state law fair leads.run (may_halt c.stage c states leads.state on leads.holds) more end.0 end.1 (λ good. absurd (cc good)) (remains c states leads.state cause.Script (stage_left c.stage c states leads.state refl on leads.holds))
 
+-- where it stands until then
+pub under_way : (first : Machine) (c : RunState) (programs : List (List Step)) (states : ℕ → DeviceState) (events : List Event) → IsLawful states → IsFair (setup_of c) first → is_over c.stage ≡ false → Leads first c programs states events → IsUnderWay (setup_of c) states first events
+under_way first c programs states events law fair on leads =
+    let m = leads.state in
+    let l = stage_left c.stage c states m refl on leads.holds in
+    let r : Remains c states m cause.Script = record { made = []; may = nothing_made (setup_of c) m cause.Script; same_run = refl; leaves = l.leaves; prefix = l.prefix; later = l.later; plain = l.plain; unindexed = l.unindexed } in
+    let stands : SiteStands (setup_of c) states m = remains_stand c states m cause.Script r law (run_fair (setup_of c) first events m leads.run fair) in
+    record {
+      state = m;
+      run = leads.run;
+      stands = stands;
+      safe = made_safe (setup_of c) states m cause.Script [] (may_halt c.stage c states m on leads.holds) (nothing_made (setup_of c) m cause.Script) stands;
+    }
+
 -- a test that tells whether it is over, and says no
 pub not_over : (says over : Bool) → (says ≡ true) ↔ (over ≡ true) → says ≡ false → over ≡ false
 not_over says true tells silent = absurd (cc (tells.1 refl, silent))
 not_over says false tells silent = refl
+
+pub not_stopped : (s : RunStage) → (is_over s ≡ true → ⊥) → is_over s ≡ false
+not_stopped s on = pick (is_over s) refl where
+  pick : (b : Bool) → is_over s ≡ b → is_over s ≡ false
+  pick true e = absurd (on e)
+  pick false e = e

@@ -21,17 +21,18 @@ use Rattle.member_store.specs.Names.{record_name, IsPlace, IsNameOf}
 use Rattle.member_store.specs.Members.{member_body}
 use Rattle.ckpt_model.specs.Machine.{Machine, Setup}
 use Rattle.ckpt_model.proofs.Plays.{same_id_is}
-use Rattle.site_core.specs.declared.cache.Cached.{Cached}
-use Rattle.site_core.specs.declared.cache.Manifest.{Manifest}
-use Rattle.site_core.specs.declared.cache.Mark.{Mark}
-use Rattle.site_core.specs.declared.cache.Mark.TheVariants as mark
-use Rattle.site_core.specs.Choosing.{is_being_sealed}
-use Rattle.site_core.specs.Shown.{Contents, kept_of, is_doubtful}
+use Rattle.site_state.specs.declared.cache.Cached.{Cached}
+use Rattle.site_state.specs.declared.cache.Manifest.{Manifest}
+use Rattle.site_state.specs.declared.cache.Mark.{Mark}
+use Rattle.site_state.specs.declared.cache.Mark.TheVariants as mark
+use Rattle.site_state.specs.Choosing.{is_being_sealed}
+use Rattle.site_state.specs.Shown.{Contents, kept_of, is_doubtful}
 use Rattle.site_core.specs.Stored.{cells_of, contents_in, is_named, place_of_rank, file_name, FilesStand, FileStands, RecordsStand, NoOtherRecords, IsAmong, IsOfSite}
 use Rattle.site_core.specs.Holds.{IsOfDataset}
 use Rattle.site_core.specs.Left.{LeavesWhole, IsNoneOf, LeavesCache, LeavesKept, NoLater}
 use Rattle.site_core.proofs.Frames.{is_place, place_named}
-use Rattle.site_core.proofs.Puts.{few_nodes, few_rows, row_rank, row_named, place_is}
+use Rattle.site_state.proofs.Shapes.{few_nodes}
+use Rattle.site_core.proofs.Puts.{few_rows, row_rank, row_named, place_is}
 use Rattle.site_core.proofs.Losses.{not_of_other, file_of}
 use Rattle.site_core.proofs.LeftFiles.{gate_opens, home_or_not}
 

@@ -13,13 +13,13 @@ use Rattle.gate_outcomes.specs.Gates.{StaysShut, StaysWhole}
 use Rattle.gate_outcomes.proofs.Stays.{synced_shut, removed_shut, rest_shut, torn_body, torn_open}
 use Rattle.member_store.specs.Names.{record_name}
 use Rattle.member_store.specs.Calls.{RemovesAtMost, RemovesFile}
-use Rattle.site_core.specs.declared.cache.Manifest.{Manifest}
-use Rattle.site_core.specs.declared.core_state.Core.{Core}
-use Rattle.site_core.specs.declared.core_state.Work.{Work}
-use Rattle.site_core.specs.Calls.{Synced, KeptAlike}
+use Rattle.site_state.specs.declared.cache.Manifest.{Manifest}
+use Rattle.site_state.specs.declared.run_state.RunState.{RunState}
+use Rattle.site_state.specs.declared.run_state.SaveStep.{SaveStep}
+use Rattle.site_calls.specs.Calls.{Synced, KeptAlike}
 use Rattle.site_core.specs.Stored.{cells_of, FilesHold}
 use Rattle.site_core.specs.Left.{LeavesSaved, NoneSealed}
-use Rattle.site_core.proofs.RefusedCalls.{same_partly}
+use Rattle.site_calls.proofs.RefusedCalls.{same_partly}
 use Rattle.site_core.proofs.Losses.{is_or_not}
 
 -- ## Files
@@ -92,7 +92,7 @@ home_or_not places node p = pick (slice_get places node) where
 -- ## No record is sealed
 
 -- while the records of the open dataset are written, none of it is left sealed
-pub none_sealed : (w : Work) (n : ℕ) (c : Core) (m : Manifest) (states : ℕ → DeviceState) → c.opened ≡ Some m → FilesHold c (cells_of states) → LeavesSaved w n c.places c.opened m states → NoneSealed m.desc.which states
+pub none_sealed : (w : SaveStep) (n : ℕ) (c : RunState) (m : Manifest) (states : ℕ → DeviceState) → c.opened ≡ Some m → FilesHold c (cells_of states) → LeavesSaved w n c.places c.opened m states → NoneSealed m.desc.which states
 none_sealed w n c m states opened files leaves p node low at = pick (home_or_not c.places node p) where
   pick : (slice_get c.places node ≡ Some p) ⊎ (slice_get c.places node ≡ Some p → ⊥) → StaysShut ((states p).file (record_name m.desc.which node)) 1
   pick (inl home) = leaves.unsealed opened node p home

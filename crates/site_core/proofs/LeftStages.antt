@@ -28,27 +28,29 @@ use Rattle.ckpt_model.specs.Moves.{after}
 use Rattle.ckpt_model.specs.Stops.{may_make, may_store, pending_of}
 use Rattle.ckpt_model.specs.Machine.{Machine, Setup, Stage as Place}
 use Rattle.site_stands.specs.Entry.{entry_name, ReadsEntry, mark_in}
-use Rattle.site_core.specs.declared.cache.Cached.{Cached}
-use Rattle.site_core.specs.declared.cache.Manifest.{Manifest}
-use Rattle.site_core.specs.declared.core_state.Core.{Core}
-use Rattle.site_core.specs.declared.core_state.Stage.{Stage}
-use Rattle.site_core.specs.declared.core_state.Stage.TheVariants as stage
-use Rattle.site_core.specs.declared.core_state.Work.{Work}
-use Rattle.site_core.specs.declared.core_state.Work.TheVariants as work
-use Rattle.site_core.specs.Calls.{KeptAlike, Unturned, Unnumbered}
-use Rattle.site_core.specs.Numbers.{IsNumberFile}
-use Rattle.site_core.specs.Choosing.{is_being_sealed, seals}
-use Rattle.site_core.specs.Shown.{running, setup_of, kept_of}
-use Rattle.site_core.specs.Waiting.{is_over}
-use Rattle.site_core.specs.Stored.{Cells, cells_of, run_number, contents_of, contents_in, file_name, place_of_rank, FilesStand, FileStands, RecordsStand, NoOtherRecords, IsAmong, IsKnown, IsWell, IsOfSite, IsUnindexed, FilesHold, RecordIs}
+use Rattle.site_state.specs.declared.cache.Cached.{Cached}
+use Rattle.site_state.specs.declared.cache.Manifest.{Manifest}
+use Rattle.site_state.specs.declared.run_state.RunState.{RunState}
+use Rattle.site_state.specs.declared.run_state.RunStage.{RunStage}
+use Rattle.site_state.specs.declared.run_state.RunStage.TheVariants as stage
+use Rattle.site_state.specs.declared.run_state.SaveStep.{SaveStep}
+use Rattle.site_state.specs.declared.run_state.SaveStep.TheVariants as work
+use Rattle.site_calls.specs.Calls.{KeptAlike, Unturned, Unnumbered}
+use Rattle.site_calls.specs.Numbers.{IsNumberFile}
+use Rattle.site_state.specs.Choosing.{is_being_sealed, seals}
+use Rattle.site_state.specs.Shown.{running, setup_of, kept_of}
+use Rattle.site_state.specs.Waiting.{is_over}
+use Rattle.site_calls.specs.Numbers.{run_number}
+use Rattle.site_core.specs.Stored.{Cells, cells_of, contents_of, contents_in, file_name, place_of_rank, FilesStand, FileStands, RecordsStand, NoOtherRecords, IsAmong, IsKnown, IsWell, IsOfSite, IsUnindexed, FilesHold, RecordIs}
 use Rattle.site_core.specs.Left.{LeavesSaved, LeavesWhole, LeavesKept, PrefixLeft, LeavesPrefix, LeavesUnindexed, NoLater, IsPlain, is_sealing_work, is_filling_at}
 use Rattle.site_core.specs.Holds.{IsOneOf, settled_set, HoldsAt, IsBegun, IsStoring, IsLooking, IsUp, IsSaved, IsSaving, IsPending, IsFileOf, IsOfDataset, IsLeavingAt, WorkIs, NoRecordYet, is_whole_at, is_sealed_at}
 use Rattle.site_core.proofs.Frames.{is_place, file_no_record, div_small, place_named}
-use Rattle.site_core.proofs.Puts.{few_nodes, few_rows, row_rank, row_named, node_below, place_is, kept_other}
+use Rattle.site_state.proofs.Shapes.{few_nodes}
+use Rattle.site_core.proofs.Puts.{few_rows, row_rank, row_named, node_below, place_is, kept_other}
 use Rattle.site_core.proofs.Halts.{no_run_file}
 use Rattle.site_core.proofs.Losses.{file_of}
 use Rattle.site_core.proofs.Refusals.{cells_alike, refused_rest}
-use Rattle.site_core.proofs.RefusedCalls.{same_partly}
+use Rattle.site_calls.proofs.RefusedCalls.{same_partly}
 use Rattle.gate_outcomes.proofs.Stays.{torn_shut}
 use Rattle.site_core.proofs.Saving.{LeavesRecord, place_of_node, put_leaves}
 use Rattle.site_core.proofs.SaveEnds.{none-passes}
@@ -56,7 +58,7 @@ use Rattle.site_core.proofs.LeftFiles.{alike_partly, has_byte, turned_whole}
 use Rattle.site_core.proofs.LeftCaches.{CacheFacts, cache_left, none_later, kept_on, later_on, low_place, home_is}
 
 -- what is known of the datasets in cache, and of the prefix
-pub record IsLeft (c : Core) (states : ℕ → DeviceState) (m : Machine) : Type 0 where
+pub record IsLeft (c : RunState) (states : ℕ → DeviceState) (m : Machine) : Type 0 where
   pub leaves : LeavesKept (setup_of c) c.places states m
   pub prefix : LeavesPrefix (states 32) m
   pub later : NoLater states m.run
@@ -64,7 +66,7 @@ pub record IsLeft (c : Core) (states : ℕ → DeviceState) (m : Machine) : Type
   pub unindexed : LeavesUnindexed (states 32)
 
 -- What is known of the datasets in cache where this state is stopped so: perhaps with a change that a refused call made.
-pub record Remains (c : Core) (states : ℕ → DeviceState) (m : Machine) (why : StopCause) : Type 0 where
+pub record Remains (c : RunState) (states : ℕ → DeviceState) (m : Machine) (why : StopCause) : Type 0 where
   pub made : List Event
   pub may : IsTrue (may_make (setup_of c) m why made)
   pub same_run : (fold (after (setup_of c)) m made).run ≡ m.run
@@ -83,7 +85,7 @@ nothing_made s m cause.Runs = refl
 nothing_made s m cause.Command = refl
 
 -- with none
-pub remains : (c : Core) (states : ℕ → DeviceState) (m : Machine) (why : StopCause) → IsLeft c states m → Remains c states m why
+pub remains : (c : RunState) (states : ℕ → DeviceState) (m : Machine) (why : StopCause) → IsLeft c states m → Remains c states m why
 remains c states m why l = record { made = []; may = nothing_made (setup_of c) m why; same_run = refl; leaves = l.leaves; prefix = l.prefix; later = l.later; plain = l.plain; unindexed = l.unindexed }
 
 some_same : {X : Type 0} (x y : X) → Some x ≡ Some y → x ≡ y
@@ -142,7 +144,7 @@ may_be_stored m at lt = rw (at, below m.run lt) refl where
   below n lt = grind (arith, nat_tests, lt)
 
 -- while the run's number is on its way, the old one stands or the next
-module _ (c : Core) (states : ℕ → DeviceState) (m : Machine) (h : IsStoring c states m) (prefix : DeviceState) (run : PairLeaves (codes "run") prefix (IsOldOrWanted h.old c.storing.want))
+module _ (c : RunState) (states : ℕ → DeviceState) (m : Machine) (h : IsStoring c states m) (prefix : DeviceState) (run : PairLeaves (codes "run") prefix (IsOldOrWanted h.old c.storing.want))
     (halt : (k : ℕ) → k < 2 → Leaves (prefix.file (copy_name (codes "halt") k)) (λ o. o ≡ cells_of states 32 (copy_name (codes "halt") k))) where
   storing_prefix : LeavesPrefix prefix m
   storing_prefix left out = pick (run (left (copy_name (codes "run") 0)) (left (copy_name (codes "run") 1)) (out (copy_name (codes "run") 0)) (out (copy_name (codes "run") 1))) where
@@ -196,22 +198,22 @@ early_facts shape run places states sets are of_site files records others quiet 
 -- ## A run that is up
 
 -- a file of the dataset is under a name of it
-file_is_of : (c : Core) (x : Manifest) (q : List ℕ) → IsFileOf c x q → IsOfDataset x.desc.which q
+file_is_of : (c : RunState) (x : Manifest) (q : List ℕ) → IsFileOf c x q → IsOfDataset x.desc.which q
 file_is_of c x q file = (file.0 / c.shape.ranks, div_small file.0 c.shape.ranks file.2, subst (λ (name : List ℕ). IsNameOf x.desc.which (file.0 / c.shape.ranks) name) (sym file.4) (file_of x.desc.which c.shape.ranks file.0 file.1 file.2 file.3))
 
 -- a record's name is no file's
-no_record_file : (c : Core) (m x : Manifest) (node : ℕ) → IsPlace m.desc.which node → IsFileOf c x (record_name m.desc.which node) → ⊥
+no_record_file : (c : RunState) (m x : Manifest) (node : ℕ) → IsPlace m.desc.which node → IsFileOf c x (record_name m.desc.which node) → ⊥
 no_record_file c m x node at file =
     let of = is_place x.desc 0 (omega arith) in
     file_no_record x.desc.which m.desc.which c.shape.ranks file.0 file.1 node (record { id = of.id; run = of.run; rank_is = file.2; file = file.3 }) at (sym file.4)
 
-home_place : (c : Core) (m : Manifest) (node p : ℕ) → c.places ≡ numbers_below c.shape.nodes → slice_get c.places node ≡ Some p → IsPlace m.desc.which node
+home_place : (c : RunState) (m : Manifest) (node p : ℕ) → c.places ≡ numbers_below c.shape.nodes → slice_get c.places node ≡ Some p → IsPlace m.desc.which node
 home_place c m node p are home = is_place m.desc node (omega (arith, (home_is c.shape c.places node p are home).1, few_nodes c.shape))
 
-home_low : (c : Core) (node p : ℕ) → c.places ≡ numbers_below c.shape.nodes → slice_get c.places node ≡ Some p → p < 32
+home_low : (c : RunState) (node p : ℕ) → c.places ≡ numbers_below c.shape.nodes → slice_get c.places node ≡ Some p → p < 32
 home_low c node p are home = let is = home_is c.shape c.places node p are home in omega (arith, is.0, is.1, few_nodes c.shape)
 
-module _ (c : Core) (states : ℕ → DeviceState) (well : IsWell c) (files : FilesHold c (cells_of states)) (quiet : (p : ℕ) (q : List ℕ) → p ≤ 32 → (p < c.shape.nodes → IsPending stage.Serving c q → ⊥) → IsAtRest ((states p).file q))
+module _ (c : RunState) (states : ℕ → DeviceState) (well : IsWell c) (files : FilesHold c (cells_of states)) (quiet : (p : ℕ) (q : List ℕ) → p ≤ 32 → (p < c.shape.nodes → IsPending stage.Serving c q → ⊥) → IsAtRest ((states p).file q))
     (none : NoRecordYet stage.Serving c (cells_of states)) (calm : list_any seals c.kept ≡ false) where
   unsealed : (m : Manifest) → c.opened ≡ Some m → (p node : ℕ) → p < 32 → IsPlace m.desc.which node → (o : Option (List ℕ)) → MayLeave ((states p).file (record_name m.desc.which node)) o → IsOpen o 1 → ⊥
   unsealed m is p node low at = not_left ((states p).file (record_name m.desc.which node))
@@ -238,7 +240,7 @@ module _ (c : Core) (states : ℕ → DeviceState) (well : IsWell c) (files : Fi
 -- ## A dataset that is being saved
 
 -- What is known of the files while a dataset is being saved, though a gate was refused.
-pub record IsLoose (w : Work) (n : ℕ) (c : Core) (m : Manifest) (states : ℕ → DeviceState) : Type 0 where
+pub record IsLoose (w : SaveStep) (n : ℕ) (c : RunState) (m : Manifest) (states : ℕ → DeviceState) : Type 0 where
   pub well : IsWell c
   pub files : FilesHold c (cells_of states)
   pub quiet : (p : ℕ) (q : List ℕ) → p ≤ 32 → (p < c.shape.nodes → IsPending (stage.Saving w n) c q → ⊥) → IsAtRest ((states p).file q)
@@ -248,10 +250,10 @@ pub record IsLoose (w : Work) (n : ℕ) (c : Core) (m : Manifest) (states : ℕ 
   pub one : (i : ℕ) (x : Cached) → slice_get c.kept i ≡ Some x → is_being_sealed x.mark ≡ true → x.manifest ≡ m
   pub leaves : LeavesSaved w n c.places c.opened m states
 
-pub loose_of : (first : Machine) (c : Core) (programs : List (List Step)) (states : ℕ → DeviceState) (events : List Event) (w : Work) (n : ℕ) (m : Manifest) → IsSaving first c programs states events w n m → IsLoose w n c m states
+pub loose_of : (first : Machine) (c : RunState) (programs : List (List Step)) (states : ℕ → DeviceState) (events : List Event) (w : SaveStep) (n : ℕ) (m : Manifest) → IsSaving first c programs states events w n m → IsLoose w n c m states
 loose_of first c programs states events w n m h = record { well = h.well; files = h.files; quiet = h.quiet; saved = h.saved; open_yet = h.saves.open_yet; apart = h.saves.apart; one = h.saves.one; leaves = h.saves.leaves }
 
-filled : (w : Work) (n i : ℕ) → is_sealing_work w ≡ true → is_filling_at w n i ≡ false
+filled : (w : SaveStep) (n i : ℕ) → is_sealing_work w ≡ true → is_filling_at w n i ≡ false
 filled work.Record n i e = absurd (cc e)
 filled work.RecordSync n i e = absurd (cc e)
 filled work.Whole n i e = refl
@@ -259,7 +261,7 @@ filled work.WholeSync n i e = refl
 filled work.Sealed n i e = refl
 filled work.SealedSync n i e = refl
 
-module _ (w : Work) (n : ℕ) (c : Core) (m : Manifest) (states : ℕ → DeviceState) (h : IsLoose w n c m states) where
+module _ (w : SaveStep) (n : ℕ) (c : RunState) (m : Manifest) (states : ℕ → DeviceState) (h : IsLoose w n c m states) where
   -- the one dataset in hand
   is_it : (x : Manifest) → IsSaved w n c x → x ≡ m
   is_it x saved = pick saved h.saved where
@@ -340,7 +342,7 @@ module _ (w : Work) (n : ℕ) (c : Core) (m : Manifest) (states : ℕ → Device
 
 -- ## A dataset on its way out
 
-leaving_facts : (gone settled : ℕ → Bool) (c : Core) (states : ℕ → DeviceState) (m : Machine) (h : IsLeavingAt gone settled c states m) → CacheFacts c.shape c.run c.places states c.kept c.opened (Some h.set)
+leaving_facts : (gone settled : ℕ → Bool) (c : RunState) (states : ℕ → DeviceState) (m : Machine) (h : IsLeavingAt gone settled c states m) → CacheFacts c.shape c.run c.places states c.kept c.opened (Some h.set)
 leaving_facts gone settled c states m h = record {
   places_are = h.well.places;
   of_site = λ i x at. h.well.sets x.manifest (inr (i, x, at, refl));
@@ -360,7 +362,7 @@ leaving_facts gone settled c states m h = record {
   shut_of : (y : Manifest) → h.set ≡ y → (p node : ℕ) → p < 32 → IsPlace y.desc.which node → (o : Option (List ℕ)) → MayLeave ((states p).file (record_name y.desc.which node)) o → IsOpen o 1 → ⊥
   shut_of y same p node low = subst (λ (z : Manifest). IsPlace z.desc.which node → (o : Option (List ℕ)) → MayLeave ((states p).file (record_name z.desc.which node)) o → IsOpen o 1 → ⊥) same (λ at. (h.unsealed p node low at).shut)
 
-leaving_kept : (gone settled : ℕ → Bool) (c : Core) (states : ℕ → DeviceState) (m : Machine) → IsLeavingAt gone settled c states m → LeavesKept (setup_of c) c.places states m
+leaving_kept : (gone settled : ℕ → Bool) (c : RunState) (states : ℕ → DeviceState) (m : Machine) → IsLeavingAt gone settled c states m → LeavesKept (setup_of c) c.places states m
 leaving_kept gone settled c states m h = record {
   sets = c.kept;
   kept = ap (λ (x : Machine). x.kept) h.is;
@@ -371,21 +373,21 @@ leaving_kept gone settled c states m h = record {
   cache = cache_left c.shape c.run c.places states c.kept c.opened (Some h.set) (leaving_facts gone settled c states m h);
 }
 
-leaving_prefix : (gone settled : ℕ → Bool) (c : Core) (states : ℕ → DeviceState) (m : Machine) → IsLeavingAt gone settled c states m → LeavesPrefix (states 32) m
+leaving_prefix : (gone settled : ℕ → Bool) (c : RunState) (states : ℕ → DeviceState) (m : Machine) → IsLeavingAt gone settled c states m → LeavesPrefix (states 32) m
 leaving_prefix gone settled c states m h =
     rest_prefix (states 32) m (λ q. h.quiet 32 q (omega arith) (λ lt un of. no_node c.shape lt)) (h.stored ∙ ap (λ (y : Machine). y.run) (sym h.is)) (h.halted ∙ ap (λ (y : Machine). y.halt) (sym h.is))
 
 -- ## Every stage of a run that isn't over
 
 -- what is known of the files where the stage is one of saving
-saving_now : (w : Work) (n : ℕ) (c : Core) (states : ℕ → DeviceState) (m : Machine) → c.stage ≡ stage.Saving w n → IsUp c states m → (x : Manifest) × IsLoose w n c x states
+saving_now : (w : SaveStep) (n : ℕ) (c : RunState) (states : ℕ → DeviceState) (m : Machine) → c.stage ≡ stage.Saving w n → IsUp c states m → (x : Manifest) × IsLoose w n c x states
 saving_now w n c states m at h =
-    let working : WorkIs (stage.Saving w n) c states = subst (λ (s : Stage). WorkIs s c states) at h.working in
+    let working : WorkIs (stage.Saving w n) c states = subst (λ (s : RunStage). WorkIs s c states) at h.working in
     let x = working.0 in
     let loose : IsLoose w n c x states = record {
       well = h.well;
       files = h.files;
-      quiet = subst (λ (s : Stage). (p : ℕ) (q : List ℕ) → p ≤ 32 → (p < c.shape.nodes → IsPending s c q → ⊥) → IsAtRest ((states p).file q)) at h.quiet;
+      quiet = subst (λ (s : RunStage). (p : ℕ) (q : List ℕ) → p ≤ 32 → (p < c.shape.nodes → IsPending s c q → ⊥) → IsAtRest ((states p).file q)) at h.quiet;
       saved = working.1;
       open_yet = working.2.open_yet;
       apart = working.2.apart;
@@ -394,24 +396,24 @@ saving_now w n c states m at h =
     } in
     (x, loose)
 
-begun_facts : (c : Core) (states : ℕ → DeviceState) (m : Machine) (h : IsBegun c states m) → CacheFacts c.shape m.run c.places states (map settled_set h.begins.sets) None None
+begun_facts : (c : RunState) (states : ℕ → DeviceState) (m : Machine) (h : IsBegun c states m) → CacheFacts c.shape m.run c.places states (map settled_set h.begins.sets) None None
 begun_facts c states m h = early_facts c.shape m.run c.places states h.begins.sets h.fresh.places h.begins.store.sets_are
     (λ x is. subst (λ (ps : List ℕ). FilesStand (cells_of states) ps c.shape.ranks x) (sym h.fresh.places) (h.begins.store.files x is))
     (λ x is. subst (λ (ps : List ℕ). RecordsStand (cells_of states) ps x) (sym h.fresh.places) (h.begins.store.records x is))
     (subst (λ (ps : List ℕ). NoOtherRecords (IsOneOf h.begins.sets) (cells_of states) ps) (sym h.fresh.places) h.begins.store.others)
     (λ p q low. h.begins.quiet p q (omega (arith, low)))
 
-storing_facts : (c : Core) (states : ℕ → DeviceState) (m : Machine) (h : IsStoring c states m) → CacheFacts c.shape m.run c.places states (map settled_set h.sets) None None
+storing_facts : (c : RunState) (states : ℕ → DeviceState) (m : Machine) (h : IsStoring c states m) → CacheFacts c.shape m.run c.places states (map settled_set h.sets) None None
 storing_facts c states m h = early_facts c.shape m.run c.places states h.sets h.fresh.places h.sets_are h.files h.records h.others (λ p q low. h.quiet p q (omega (arith, low)) (λ is. absurd (omega (arith, is, low))))
 
-looking_facts : (c : Core) (states : ℕ → DeviceState) (m : Machine) (h : IsLooking c states m) → CacheFacts c.shape c.run c.places states (map settled_set h.sets) None None
+looking_facts : (c : RunState) (states : ℕ → DeviceState) (m : Machine) (h : IsLooking c states m) → CacheFacts c.shape c.run c.places states (map settled_set h.sets) None None
 looking_facts c states m h = early_facts c.shape c.run c.places states h.sets h.fresh.places h.store.sets_are
     (λ x is. subst (λ (ps : List ℕ). FilesStand (cells_of states) ps c.shape.ranks x) (sym h.fresh.places) (h.store.files x is))
     (λ x is. subst (λ (ps : List ℕ). RecordsStand (cells_of states) ps x) (sym h.fresh.places) (h.store.records x is))
     (subst (λ (ps : List ℕ). NoOtherRecords (IsOneOf h.sets) (cells_of states) ps) (sym h.fresh.places) h.store.others)
     (λ p q low. h.quiet p q (omega (arith, low)))
 
-stage_kept : (s : Stage) (c : Core) (states : ℕ → DeviceState) (m : Machine) → c.stage ≡ s → is_over s ≡ false → HoldsAt s c states m → LeavesKept (setup_of c) c.places states m
+stage_kept : (s : RunStage) (c : RunState) (states : ℕ → DeviceState) (m : Machine) → c.stage ≡ s → is_over s ≡ false → HoldsAt s c states m → LeavesKept (setup_of c) c.places states m
 stage_kept stage.Begun c states m at on h = record {
   sets = map settled_set h.begins.sets;
   kept = subst (λ (ps : List ℕ). m.kept ≡ map (kept_of (setup_of c) (contents_in (cells_of states) ps c.shape.ranks) ps) (map settled_set h.begins.sets)) (sym h.fresh.places) h.begins.kept;
@@ -440,7 +442,7 @@ stage_kept stage.Looking c states m at on h = record {
   cache = cache_left c.shape c.run c.places states (map settled_set h.sets) None None (looking_facts c states m h);
 }
 stage_kept stage.Mending c states m at on h =
-    let working : WorkIs stage.Mending c states = subst (λ (s : Stage). WorkIs s c states) at h.working in
+    let working : WorkIs stage.Mending c states = subst (λ (s : RunStage). WorkIs s c states) at h.working in
     record {
       sets = c.kept;
       kept = ap (λ (x : Machine). x.kept) h.is;
@@ -448,10 +450,10 @@ stage_kept stage.Mending c states m at on h =
       of_site = λ i x there. subst (λ (run : ℕ). IsOfSite c.shape run x.manifest) (ap (λ (y : Machine). y.run) (sym h.is)) (h.well.sets x.manifest (inr (i, x, there, refl)));
       rise = h.well.rise;
       index = ap (λ (x : Machine). x.index) h.is;
-      cache = cache_left c.shape c.run c.places states c.kept c.opened c.opened (serving_facts c states h.well h.files (subst (λ (s : Stage). (p : ℕ) (q : List ℕ) → p ≤ 32 → (p < c.shape.nodes → IsPending s c q → ⊥) → IsAtRest ((states p).file q)) at h.quiet) (subst (λ (s : Stage). NoRecordYet s c (cells_of states)) at h.unrecorded) working.1);
+      cache = cache_left c.shape c.run c.places states c.kept c.opened c.opened (serving_facts c states h.well h.files (subst (λ (s : RunStage). (p : ℕ) (q : List ℕ) → p ≤ 32 → (p < c.shape.nodes → IsPending s c q → ⊥) → IsAtRest ((states p).file q)) at h.quiet) (subst (λ (s : RunStage). NoRecordYet s c (cells_of states)) at h.unrecorded) working.1);
     }
 stage_kept stage.Serving c states m at on h =
-    let working : WorkIs stage.Serving c states = subst (λ (s : Stage). WorkIs s c states) at h.working in
+    let working : WorkIs stage.Serving c states = subst (λ (s : RunStage). WorkIs s c states) at h.working in
     record {
       sets = c.kept;
       kept = ap (λ (x : Machine). x.kept) h.is;
@@ -459,23 +461,23 @@ stage_kept stage.Serving c states m at on h =
       of_site = λ i x there. subst (λ (run : ℕ). IsOfSite c.shape run x.manifest) (ap (λ (y : Machine). y.run) (sym h.is)) (h.well.sets x.manifest (inr (i, x, there, refl)));
       rise = h.well.rise;
       index = ap (λ (x : Machine). x.index) h.is;
-      cache = cache_left c.shape c.run c.places states c.kept c.opened c.opened (serving_facts c states h.well h.files (subst (λ (s : Stage). (p : ℕ) (q : List ℕ) → p ≤ 32 → (p < c.shape.nodes → IsPending s c q → ⊥) → IsAtRest ((states p).file q)) at h.quiet) (subst (λ (s : Stage). NoRecordYet s c (cells_of states)) at h.unrecorded) working.1);
+      cache = cache_left c.shape c.run c.places states c.kept c.opened c.opened (serving_facts c states h.well h.files (subst (λ (s : RunStage). (p : ℕ) (q : List ℕ) → p ≤ 32 → (p < c.shape.nodes → IsPending s c q → ⊥) → IsAtRest ((states p).file q)) at h.quiet) (subst (λ (s : RunStage). NoRecordYet s c (cells_of states)) at h.unrecorded) working.1);
     }
 stage_kept (stage.Saving w n) c states m at on h = let x = saving_now w n c states m at h in subst (λ (y : Machine). LeavesKept (setup_of c) c.places states y) (sym h.is) (loose_kept w n c x.0 states x.1)
 stage_kept (stage.Dropping d n) c states m at on h = leaving_kept _ _ c states m h.leaves
 stage_kept stage.Dropped c states m at on h = leaving_kept _ _ c states m h
 stage_kept stage.Over c states m at on h = absurd (cc on)
 
-up_prefix : (c : Core) (states : ℕ → DeviceState) (m : Machine) → IsUp c states m → LeavesPrefix (states 32) m
+up_prefix : (c : RunState) (states : ℕ → DeviceState) (m : Machine) → IsUp c states m → LeavesPrefix (states 32) m
 up_prefix c states m h = rest_prefix (states 32) m (λ q. h.quiet 32 q (omega arith) (λ lt pending. no_node c.shape lt)) (h.files.stored ∙ ap (λ (y : Machine). y.run) (sym h.is)) (h.files.halted ∙ ap (λ (y : Machine). y.halt) (sym h.is))
 
-up_unindexed : (c : Core) (states : ℕ → DeviceState) (m : Machine) → IsUp c states m → LeavesUnindexed (states 32)
+up_unindexed : (c : RunState) (states : ℕ → DeviceState) (m : Machine) → IsUp c states m → LeavesUnindexed (states 32)
 up_unindexed c states m h = rest_unindexed (states 32) (λ q other. h.quiet 32 q (omega arith) (λ lt pending. no_node c.shape lt)) h.files.unindexed
 
-leaving_unindexed : (gone settled : ℕ → Bool) (c : Core) (states : ℕ → DeviceState) (m : Machine) → IsLeavingAt gone settled c states m → LeavesUnindexed (states 32)
+leaving_unindexed : (gone settled : ℕ → Bool) (c : RunState) (states : ℕ → DeviceState) (m : Machine) → IsLeavingAt gone settled c states m → LeavesUnindexed (states 32)
 leaving_unindexed gone settled c states m h = rest_unindexed (states 32) (λ q other. h.quiet 32 q (omega arith) (λ lt un of. no_node c.shape lt)) h.unindexed
 
-stage_prefix : (s : Stage) (c : Core) (states : ℕ → DeviceState) (m : Machine) → is_over s ≡ false → HoldsAt s c states m → LeavesPrefix (states 32) m
+stage_prefix : (s : RunStage) (c : RunState) (states : ℕ → DeviceState) (m : Machine) → is_over s ≡ false → HoldsAt s c states m → LeavesPrefix (states 32) m
 stage_prefix stage.Begun c states m on h = rest_prefix (states 32) m (λ q. h.begins.quiet 32 q (omega arith)) h.begins.store.stored (sym h.begins.halt)
 stage_prefix stage.Storing c states m on h = storing_prefix c states m h (states 32) h.leaves (λ k lt o may. rest_leaves ((states 32).file (copy_name (codes "halt") k)) o (h.quiet 32 (copy_name (codes "halt") k) (omega arith) (λ is. no_number_file k)) may)
 stage_prefix stage.Looking c states m on h = rest_prefix (states 32) m (λ q. h.quiet 32 q (omega arith)) (h.store.stored ∙ ap (λ (y : Machine). y.run) (sym h.is)) (h.halted ∙ ap (λ (y : Machine). y.halt) (sym h.is))
@@ -486,25 +488,25 @@ stage_prefix (stage.Dropping d n) c states m on h = leaving_prefix _ _ c states 
 stage_prefix stage.Dropped c states m on h = leaving_prefix _ _ c states m h
 stage_prefix stage.Over c states m on h = absurd (cc on)
 
-saving_later : (w : Work) (n : ℕ) (c : Core) (states : ℕ → DeviceState) (m : Machine) → c.stage ≡ stage.Saving w n → IsUp c states m → NoLater states c.run
+saving_later : (w : SaveStep) (n : ℕ) (c : RunState) (states : ℕ → DeviceState) (m : Machine) → c.stage ≡ stage.Saving w n → IsUp c states m → NoLater states c.run
 saving_later w n c states m at h = let x = saving_now w n c states m at h in none_later c.shape c.run c.places states c.kept c.opened (Some x.0) (saving_facts w n c x.0 states x.1)
 
-stage_later : (s : Stage) (c : Core) (states : ℕ → DeviceState) (m : Machine) → c.stage ≡ s → is_over s ≡ false → HoldsAt s c states m → NoLater states m.run
+stage_later : (s : RunStage) (c : RunState) (states : ℕ → DeviceState) (m : Machine) → c.stage ≡ s → is_over s ≡ false → HoldsAt s c states m → NoLater states m.run
 stage_later stage.Begun c states m at on h = none_later c.shape m.run c.places states (map settled_set h.begins.sets) None None (begun_facts c states m h)
 stage_later stage.Storing c states m at on h = none_later c.shape m.run c.places states (map settled_set h.sets) None None (storing_facts c states m h)
 stage_later stage.Looking c states m at on h = subst (λ (run : ℕ). NoLater states run) (ap (λ (y : Machine). y.run) (sym h.is)) (none_later c.shape c.run c.places states (map settled_set h.sets) None None (looking_facts c states m h))
 stage_later stage.Mending c states m at on h =
-    let working : WorkIs stage.Mending c states = subst (λ (s : Stage). WorkIs s c states) at h.working in
-    subst (λ (run : ℕ). NoLater states run) (ap (λ (y : Machine). y.run) (sym h.is)) (none_later c.shape c.run c.places states c.kept c.opened c.opened (serving_facts c states h.well h.files (subst (λ (s : Stage). (p : ℕ) (q : List ℕ) → p ≤ 32 → (p < c.shape.nodes → IsPending s c q → ⊥) → IsAtRest ((states p).file q)) at h.quiet) (subst (λ (s : Stage). NoRecordYet s c (cells_of states)) at h.unrecorded) working.1))
+    let working : WorkIs stage.Mending c states = subst (λ (s : RunStage). WorkIs s c states) at h.working in
+    subst (λ (run : ℕ). NoLater states run) (ap (λ (y : Machine). y.run) (sym h.is)) (none_later c.shape c.run c.places states c.kept c.opened c.opened (serving_facts c states h.well h.files (subst (λ (s : RunStage). (p : ℕ) (q : List ℕ) → p ≤ 32 → (p < c.shape.nodes → IsPending s c q → ⊥) → IsAtRest ((states p).file q)) at h.quiet) (subst (λ (s : RunStage). NoRecordYet s c (cells_of states)) at h.unrecorded) working.1))
 stage_later stage.Serving c states m at on h =
-    let working : WorkIs stage.Serving c states = subst (λ (s : Stage). WorkIs s c states) at h.working in
-    subst (λ (run : ℕ). NoLater states run) (ap (λ (y : Machine). y.run) (sym h.is)) (none_later c.shape c.run c.places states c.kept c.opened c.opened (serving_facts c states h.well h.files (subst (λ (s : Stage). (p : ℕ) (q : List ℕ) → p ≤ 32 → (p < c.shape.nodes → IsPending s c q → ⊥) → IsAtRest ((states p).file q)) at h.quiet) (subst (λ (s : Stage). NoRecordYet s c (cells_of states)) at h.unrecorded) working.1))
+    let working : WorkIs stage.Serving c states = subst (λ (s : RunStage). WorkIs s c states) at h.working in
+    subst (λ (run : ℕ). NoLater states run) (ap (λ (y : Machine). y.run) (sym h.is)) (none_later c.shape c.run c.places states c.kept c.opened c.opened (serving_facts c states h.well h.files (subst (λ (s : RunStage). (p : ℕ) (q : List ℕ) → p ≤ 32 → (p < c.shape.nodes → IsPending s c q → ⊥) → IsAtRest ((states p).file q)) at h.quiet) (subst (λ (s : RunStage). NoRecordYet s c (cells_of states)) at h.unrecorded) working.1))
 stage_later (stage.Saving w n) c states m at on h = subst (λ (run : ℕ). NoLater states run) (ap (λ (y : Machine). y.run) (sym h.is)) (saving_later w n c states m at h)
 stage_later (stage.Dropping d n) c states m at on h = subst (λ (run : ℕ). NoLater states run) (ap (λ (y : Machine). y.run) (sym h.leaves.is)) (none_later c.shape c.run c.places states c.kept c.opened (Some h.leaves.set) (leaving_facts _ _ c states m h.leaves))
 stage_later stage.Dropped c states m at on h = subst (λ (run : ℕ). NoLater states run) (ap (λ (y : Machine). y.run) (sym h.is)) (none_later c.shape c.run c.places states c.kept c.opened (Some h.set) (leaving_facts _ _ c states m h))
 stage_later stage.Over c states m at on h = absurd (cc on)
 
-stage_plain : (s : Stage) (c : Core) (states : ℕ → DeviceState) (m : Machine) → is_over s ≡ false → HoldsAt s c states m → IsPlain m
+stage_plain : (s : RunStage) (c : RunState) (states : ℕ → DeviceState) (m : Machine) → is_over s ≡ false → HoldsAt s c states m → IsPlain m
 stage_plain stage.Begun c states m on h = record { mark = h.begins.mark_is; pending = ap pending_of h.begins.between }
 stage_plain stage.Storing c states m on h = record { mark = h.mark_is; pending = ap pending_of h.between }
 stage_plain stage.Looking c states m on h = record { mark = ap (λ (y : Machine). y.mark) h.is; pending = ap (λ (y : Machine). pending_of y.stage) h.is }
@@ -515,7 +517,7 @@ stage_plain (stage.Dropping d n) c states m on h = record { mark = ap (λ (y : M
 stage_plain stage.Dropped c states m on h = record { mark = ap (λ (y : Machine). y.mark) h.is; pending = ap (λ (y : Machine). pending_of y.stage) h.is }
 stage_plain stage.Over c states m on h = absurd (cc on)
 
-stage_unindexed : (s : Stage) (c : Core) (states : ℕ → DeviceState) (m : Machine) → is_over s ≡ false → HoldsAt s c states m → LeavesUnindexed (states 32)
+stage_unindexed : (s : RunStage) (c : RunState) (states : ℕ → DeviceState) (m : Machine) → is_over s ≡ false → HoldsAt s c states m → LeavesUnindexed (states 32)
 stage_unindexed stage.Begun c states m on h = rest_unindexed (states 32) (λ q other. h.begins.quiet 32 q (omega arith)) h.begins.unindexed
 stage_unindexed stage.Storing c states m on h = rest_unindexed (states 32) (λ q other. h.quiet 32 q (omega arith) (λ is number. other number)) h.unindexed
 stage_unindexed stage.Looking c states m on h = rest_unindexed (states 32) (λ q other. h.quiet 32 q (omega arith)) h.unindexed
@@ -526,20 +528,20 @@ stage_unindexed (stage.Dropping d n) c states m on h = leaving_unindexed _ _ c s
 stage_unindexed stage.Dropped c states m on h = leaving_unindexed _ _ c states m h
 stage_unindexed stage.Over c states m on h = absurd (cc on)
 
-pub stage_left : (s : Stage) (c : Core) (states : ℕ → DeviceState) (m : Machine) → c.stage ≡ s → is_over s ≡ false → HoldsAt s c states m → IsLeft c states m
+pub stage_left : (s : RunStage) (c : RunState) (states : ℕ → DeviceState) (m : Machine) → c.stage ≡ s → is_over s ≡ false → HoldsAt s c states m → IsLeft c states m
 stage_left s c states m at on h = record { leaves = stage_kept s c states m at on h; prefix = stage_prefix s c states m on h; later = stage_later s c states m at on h; plain = stage_plain s c states m on h; unindexed = stage_unindexed s c states m on h }
 
 -- ## After a call that was refused
 
 -- the nodes are as they were
-kept_apart : (c : Core) (states after : ℕ → DeviceState) (m : Machine) → ((p : ℕ) → p ≢ 32 → after p ≡ states p) → LeavesKept (setup_of c) c.places states m → LeavesKept (setup_of c) c.places after m
+kept_apart : (c : RunState) (states after : ℕ → DeviceState) (m : Machine) → ((p : ℕ) → p ≢ 32 → after p ≡ states p) → LeavesKept (setup_of c) c.places states m → LeavesKept (setup_of c) c.places after m
 kept_apart c states after m apart l = kept_on (setup_of c) c.places states after m (λ k. low_place c.shape c.places k l.places_are)
     (λ p q low. same_partly ((states p).file q) ((after p).file q) (ap (λ (d : DeviceState). d.file q) (apart p (not_prefix p low)))) (λ p q low. ap (λ (d : DeviceState). (d.file q).now) (apart p (not_prefix p low))) l where
       not_prefix : (p : ℕ) → p < 32 → p ≢ 32
       not_prefix p low is = absurd (omega (arith, low, is))
 
 -- a read, a sync or a removal was refused
-pub left_alike : (c : Core) (place : ℕ) (states after : ℕ → DeviceState) (m : Machine) → OnlyAt place KeptAlike states after → IsLeft c states m → IsLeft c after m
+pub left_alike : (c : RunState) (place : ℕ) (states after : ℕ → DeviceState) (m : Machine) → OnlyAt place KeptAlike states after → IsLeft c states m → IsLeft c after m
 left_alike c place states after m done l = record {
   leaves = kept_on (setup_of c) c.places states after m (λ k. low_place c.shape c.places k l.leaves.places_are) (λ p q low. alike_partly place states after done p q)
       (λ p q low. ap (λ (cells : Cells). cells p q) (cells_alike place states after done.here.alike done.others)) l.leaves;
@@ -550,7 +552,7 @@ left_alike c place states after m done l = record {
 }
 
 -- a step of the run's number was refused
-pub left_unnumbered : (c : Core) (states after : ℕ → DeviceState) (m : Machine) → c.stage ≡ stage.Storing → IsStoring c states m → (after 32).tells ≡ true → OnlyAt 32 (Unnumbered c.storing.want c.storing.changes) states after → IsLeft c after m
+pub left_unnumbered : (c : RunState) (states after : ℕ → DeviceState) (m : Machine) → c.stage ≡ stage.Storing → IsStoring c states m → (after 32).tells ≡ true → OnlyAt 32 (Unnumbered c.storing.want c.storing.changes) states after → IsLeft c after m
 left_unnumbered c states after m at h told done = record {
   leaves = kept_apart c states after m done.others (stage_kept stage.Storing c states m at refl h);
   prefix = storing_prefix c states m h (after 32) (done.here.leaves h.old h.way told) (λ k lt o may.
@@ -561,7 +563,7 @@ left_unnumbered c states after m at h told done = record {
 }
 
 -- a gate of the dataset that is being saved was refused
-module _ (first : Machine) (c : Core) (programs : List (List Step)) (states after : ℕ → DeviceState) (events : List Event) (w : Work) (n : ℕ) (m : Manifest) (h : IsSaving first c programs states events w n m) (place gate : ℕ) (home : slice_get c.places n ≡ Some place)
+module _ (first : Machine) (c : RunState) (programs : List (List Step)) (states after : ℕ → DeviceState) (events : List Event) (w : SaveStep) (n : ℕ) (m : Manifest) (h : IsSaving first c programs states events w n m) (place gate : ℕ) (home : slice_get c.places n ≡ Some place)
     (done : OnlyAt place (Unturned (record_name m.desc.which n) gate) states after) where
   same_cells : cells_of after ≡ cells_of states
   same_cells = cells_alike place states after done.here.refused.alike done.others
@@ -583,7 +585,7 @@ module _ (first : Machine) (c : Core) (programs : List (List Step)) (states afte
   gate_left left = subst (λ (cells : Cells). IsLeft c after (running (contents_of cells c) c)) same_cells (loose_left w n c m after (gate_loose left))
 
 -- of a gate `whole`
-pub whole_refused : (first : Machine) (c : Core) (programs : List (List Step)) (states after : ℕ → DeviceState) (events : List Event) (n : ℕ) (m : Manifest) → IsSaving first c programs states events work.Whole n m → (place : ℕ) → slice_get c.places n ≡ Some place
+pub whole_refused : (first : Machine) (c : RunState) (programs : List (List Step)) (states after : ℕ → DeviceState) (events : List Event) (n : ℕ) (m : Manifest) → IsSaving first c programs states events work.Whole n m → (place : ℕ) → slice_get c.places n ≡ Some place
     → OnlyAt place (Unturned (record_name m.desc.which n) 0) states after → IsLeft c after (running (contents_of (cells_of states) c) c)
 whole_refused first c programs states after events n m h place home done =
     let f = (states place).file (record_name m.desc.which n) in
@@ -595,7 +597,7 @@ whole_refused first c programs states after events n m h place home done =
     })
 
 -- of a gate `sealed`
-pub sealed_refused : (first : Machine) (c : Core) (programs : List (List Step)) (states after : ℕ → DeviceState) (events : List Event) (n : ℕ) (m : Manifest) → c.opened ≡ None → IsSaving first c programs states events work.Sealed n m → (place : ℕ) → slice_get c.places n ≡ Some place
+pub sealed_refused : (first : Machine) (c : RunState) (programs : List (List Step)) (states after : ℕ → DeviceState) (events : List Event) (n : ℕ) (m : Manifest) → c.opened ≡ None → IsSaving first c programs states events work.Sealed n m → (place : ℕ) → slice_get c.places n ≡ Some place
     → OnlyAt place (Unturned (record_name m.desc.which n) 1) states after → IsLeft c after (running (contents_of (cells_of states) c) c)
 sealed_refused first c programs states after events n m closed h place home done =
     let f = (states place).file (record_name m.desc.which n) in

@@ -1,36 +1,17 @@
 -- Programs with a step more: what was a step of theirs still is.
-use Rattle.std.proofs.Common.{◌≡◌, ℕ, zero, suc, ◌-◌, List, [], ◌∷◌, ◌++◌, Some}
-use Rattle.std.specs.Prelude.{slice_get, unwrap_or}
+use Rattle.std.proofs.Common.{ℕ, List, [], ◌∷◌}
 use Rattle.scr_base.specs.declared.content.Step.{Step}
 use Rattle.node_device.specs.DeviceState.{DeviceState}
 use Rattle.ckpt_model.specs.declared.event.Event.{Event}
-use Rattle.ckpt_model.specs.declared.event.Event.TheVariants as event
-use Rattle.ckpt_model.specs.Legal.{IsOfProgram, AreOfPrograms}
+use Rattle.ckpt_model.specs.Legal.{AreOfPrograms}
 use Rattle.ckpt_model.specs.Machine.{Machine, Setup}
-use Rattle.site_core.specs.declared.core_state.Core.{Core}
-use Rattle.site_core.specs.declared.core_state.Stage.{Stage}
-use Rattle.site_core.specs.declared.core_state.Stage.TheVariants as stage
-use Rattle.site_core.specs.Asking.{lengthened}
-use Rattle.site_core.specs.Shown.{setup_of}
+use Rattle.site_state.specs.declared.run_state.RunState.{RunState}
+use Rattle.site_state.specs.declared.run_state.RunStage.{RunStage}
+use Rattle.site_state.specs.declared.run_state.RunStage.TheVariants as stage
+use Rattle.site_state.specs.Asking.{lengthened}
+use Rattle.site_state.specs.Shown.{setup_of}
 use Rattle.site_core.specs.Holds.{IsSoFar, ToldAt, ClosesAt, Leads}
-
--- a step of the front is one of the whole
-front_step : (steps : List Step) (more : Step) (n : ℕ) (s : Step) → slice_get steps n ≡ Some s → slice_get (steps ++ more ∷ []) n ≡ Some s
-front_step [] more n s e = absurd (cc e)
-front_step (x ∷ steps) more zero s e = e
-front_step (x ∷ steps) more (suc n) s e = front_step steps more n s e
-
-pub still_there : (programs : List (List Step)) (rank : ℕ) (more : Step) (r n : ℕ) (s : Step) → slice_get (unwrap_or (slice_get programs r) []) n ≡ Some s → slice_get (unwrap_or (slice_get (lengthened programs rank more) r) []) n ≡ Some s
-still_there [] rank more r n s e = absurd (cc e)
-still_there (p ∷ programs) zero more zero n s e = front_step p more n s e
-still_there (p ∷ programs) zero more (suc r) n s e = e
-still_there (p ∷ programs) (suc rank) more zero n s e = e
-still_there (p ∷ programs) (suc rank) more (suc r) n s e = still_there programs rank more r n s e
-
-still_of_program : (programs : List (List Step)) (rank : ℕ) (more : Step) (e : Event) → IsOfProgram programs e → IsOfProgram (lengthened programs rank more) e
-still_of_program programs rank more (event.Call r number step) h = still_there programs rank more r (number - 1) step h
-still_of_program programs rank more (event.Local r number step answer) h = still_there programs rank more r (number - 1) step h
-still_of_program programs rank more _ h = tt
+use Rattle.site_state.proofs.Lengthened.{still_of_program}
 
 still_of_programs : (programs : List (List Step)) (rank : ℕ) (more : Step) (events : List Event) → AreOfPrograms programs events → AreOfPrograms (lengthened programs rank more) events
 still_of_programs programs rank more [] h = tt
@@ -40,7 +21,7 @@ module _ (places : List ℕ) (programs : List (List Step)) (rank : ℕ) (more : 
   still_so_far : IsSoFar places programs events → IsSoFar places (lengthened programs rank more) events
   still_so_far h = record { begin = h.begin; steps = still_of_programs programs rank more events h.steps; goes_on = h.goes_on }
 
-  still_told : (s : Stage) → ToldAt s places programs events → ToldAt s places (lengthened programs rank more) events
+  still_told : (s : RunStage) → ToldAt s places programs events → ToldAt s places (lengthened programs rank more) events
   still_told stage.Begun told = told
   still_told stage.Storing told = told
   still_told stage.Looking told = still_so_far told
@@ -51,7 +32,7 @@ module _ (places : List ℕ) (programs : List (List Step)) (rank : ℕ) (more : 
   still_told stage.Dropped told = still_so_far told
   still_told stage.Over told = told
 
-  still_closes : (s : Stage) (setup : Setup) (first : Machine) (states : ℕ → DeviceState) → ClosesAt s setup first places programs states events → ClosesAt s setup first places (lengthened programs rank more) states events
+  still_closes : (s : RunStage) (setup : Setup) (first : Machine) (states : ℕ → DeviceState) → ClosesAt s setup first places programs states events → ClosesAt s setup first places (lengthened programs rank more) states events
   still_closes stage.Over setup first states h = record { front = h.front; why = h.why; is = h.is; before = h.before; run = h.run; safe = h.safe; well = h.well; begin = h.begin; steps = still_of_programs programs rank more events h.steps; goes_on = h.goes_on }
   still_closes stage.Begun setup first states h = tt
   still_closes stage.Storing setup first states h = tt
@@ -63,7 +44,7 @@ module _ (places : List ℕ) (programs : List (List Step)) (rank : ℕ) (more : 
   still_closes stage.Dropped setup first states h = tt
 
 -- the history leads to the site with a step more, as it led to it without
-pub still_leads : (first : Machine) (c : Core) (programs : List (List Step)) (rank : ℕ) (more : Step) (states : ℕ → DeviceState) (events : List Event)
+pub still_leads : (first : Machine) (c : RunState) (programs : List (List Step)) (rank : ℕ) (more : Step) (states : ℕ → DeviceState) (events : List Event)
     → Leads first c programs states events → Leads first c (lengthened programs rank more) states events
 still_leads first c programs rank more states events h = record {
   state = h.state;

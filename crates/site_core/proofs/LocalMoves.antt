@@ -29,21 +29,21 @@ use Rattle.ckpt_model.specs.Runs.{StepsTo}
 use Rattle.ckpt_model.proofs.RunLemmas.{run_on}
 use Rattle.round_core.specs.declared.seat.Seat.{Seat}
 use Rattle.round_core.specs.Seats.{is_free, stepped}
-use Rattle.site_core.specs.declared.cache.Cached.{Cached}
-use Rattle.site_core.specs.declared.cache.Manifest.{Manifest}
-use Rattle.site_core.specs.declared.core_state.Core.{Core}
-use Rattle.site_core.specs.declared.core_state.Stage.{Stage}
-use Rattle.site_core.specs.declared.core_state.Stage.TheVariants as stage
-use Rattle.site_core.specs.Shown.{Contents, running, setup_of}
-use Rattle.site_core.specs.Choosing.{seals, local_verdict_of, at_hand}
-use Rattle.site_core.specs.Calls.{Written, Tells}
+use Rattle.site_state.specs.declared.cache.Cached.{Cached}
+use Rattle.site_state.specs.declared.cache.Manifest.{Manifest}
+use Rattle.site_state.specs.declared.run_state.RunState.{RunState}
+use Rattle.site_state.specs.declared.run_state.RunStage.{RunStage}
+use Rattle.site_state.specs.declared.run_state.RunStage.TheVariants as stage
+use Rattle.site_state.specs.Shown.{Contents, running, setup_of}
+use Rattle.site_state.specs.Choosing.{seals, local_verdict_of, at_hand}
+use Rattle.site_calls.specs.Calls.{Written, Tells}
 use Rattle.site_core.specs.Stored.{Cells, cells_of, contents_in, contents_of, place_of_rank, file_name, IsKnown, IsWell, IsOfSite, ChangesFile}
 use Rattle.site_core.specs.Holds.{Leads, NoRecordYet, IsPending, WorkIs, IsFileOf}
 use Rattle.site_core.proofs.Told.{is_up, IsLed, led, leads_up, tells_more}
 use Rattle.site_core.proofs.Frames.{IsNamed, AreFilesSame, other_contents, this_contents, these_contents, every_record, data-same}
 use Rattle.site_core.proofs.Puts.{file_changes, rest_stays, IsPutRow, put_holds, rank_place_low, place_is, node_below, row_named, few_rows}
-use Rattle.site_core.specs.Cores.{with_rows, with_open}
-use Rattle.site_core.proofs.Locals.{AreOther, NoneMore, Other, routes, writes}
+use Rattle.site_state.specs.Cores.{with_rows, with_open}
+use Rattle.site_state.proofs.Locals.{AreOther, NoneMore, Other, routes, writes}
 
 -- ## Rows
 
@@ -97,7 +97,7 @@ length-written_at old at new = grind (arith, extended_length at old, length-take
 
 -- ## The run after a put
 
-module _ (first : Machine) (c : Core) (programs : List (List Step)) (states after : ℕ → DeviceState) (events events' : List Event) (e : Event) (m : Manifest) (rank j : ℕ) (rows : List FileRow) (bytes : List ℕ) (ranks : List Seat)
+module _ (first : Machine) (c : RunState) (programs : List (List Step)) (states after : ℕ → DeviceState) (events events' : List Event) (e : Event) (m : Manifest) (rank j : ℕ) (rows : List FileRow) (bytes : List ℕ) (ranks : List Seat)
     (at : c.stage ≡ stage.Serving) (h : IsLed first c programs states events) (opened : c.opened ≡ Some m) (lt : rank < length m.files) (small : j < 2 ^ 8)
     (fit : IsRows rows) (row : IsPutRow (rows_of m.files rank) rows j (length bytes)) (same_ranks : length ranks ≡ length c.ranks)
     (done : OnlyAt (place_of_rank c.places c.shape.ranks rank) (λ a b. ChangesOnly (file_name m.desc.which c.shape.ranks rank j) a b) states after)
@@ -115,7 +115,7 @@ module _ (first : Machine) (c : Core) (programs : List (List Step)) (states afte
     opened_run = λ x is. ap (λ (y : Manifest). y.desc.which.run) (sym (some_one (with_rows m rank rows) x is)) ∙ h.well.opened_run m opened;
     opened_below = λ x is. subst (λ (y : Manifest). y.desc.which.id < c.next) (some_one (with_rows m rank rows) x is) (h.well.opened_below m opened);
     output = λ x is. h.well.output m opened;
-    opened_last = λ x is. subst (λ (y : Manifest). Rattle.site_core.specs.Choosing.AreBelow y.desc.which.id c.kept) (some_one (with_rows m rank rows) x is) (h.well.opened_last m opened);
+    opened_last = λ x is. subst (λ (y : Manifest). Rattle.site_state.specs.Choosing.AreBelow y.desc.which.id c.kept) (some_one (with_rows m rank rows) x is) (h.well.opened_last m opened);
     ranks = same_ranks ∙ h.well.ranks;
   } where
     some_one : (a b : Manifest) → Some a ≡ Some b → a ≡ b
@@ -142,24 +142,24 @@ module _ (first : Machine) (c : Core) (programs : List (List Step)) (states afte
   put_leads step one goes more =
       let d = with_open c (with_rows m rank rows) ranks in
       let of = row_named c.shape c.run m rank j (h.well.sets m (inl opened)) lt small in
-      let work : WorkIs stage.Serving c states = subst (λ (s : Stage). WorkIs s c states) at h.working in
-      let none : NoRecordYet stage.Serving c (cells_of states) = subst (λ (s : Stage). NoRecordYet s c (cells_of states)) at h.unrecorded in
-      let quiet = subst (λ (s : Stage). (p : ℕ) (q : List ℕ) → p ≤ 32 → (p < c.shape.nodes → IsPending s c q → ⊥) → IsAtRest ((states p).file q)) at h.quiet in
+      let work : WorkIs stage.Serving c states = subst (λ (s : RunStage). WorkIs s c states) at h.working in
+      let none : NoRecordYet stage.Serving c (cells_of states) = subst (λ (s : RunStage). NoRecordYet s c (cells_of states)) at h.unrecorded in
+      let quiet = subst (λ (s : RunStage). (p : ℕ) (q : List ℕ) → p ≤ 32 → (p < c.shape.nodes → IsPending s c q → ⊥) → IsAtRest ((states p).file q)) at h.quiet in
       let l : IsLed first d programs after events' = record {
         run = run_on (setup_of c) first (running (contents_of (cells_of states) c) c) (running (contents_of (cells_of after) c) d) events events' e more h.run step;
         so_far = tells_more c.places programs events events' e more h.so_far one goes;
         well = put_well;
         files = put_holds c m rank j rows bytes (cells_of states) (cells_of after) ranks h.well h.files opened lt small row change put;
-        quiet = subst (λ (s : Stage). (p : ℕ) (q : List ℕ) → p ≤ 32 → (p < c.shape.nodes → IsPending s d q → ⊥) → IsAtRest ((after p).file q)) (sym at)
+        quiet = subst (λ (s : RunStage). (p : ℕ) (q : List ℕ) → p ≤ 32 → (p < c.shape.nodes → IsPending s d q → ⊥) → IsAtRest ((after p).file q)) (sym at)
             (λ p q low calm. rest_stays (place_of_rank c.places c.shape.ranks rank) (file_name m.desc.which c.shape.ranks rank j) states after done p q
             (λ same is. calm (on_node p same) (with_rows m rank rows, refl, (rank, j, of.rank_is, of.file, is)))
             (quiet p q low (λ node pending. calm node (still q pending))));
-        unrecorded = subst (λ (s : Stage). NoRecordYet s d (cells_of after)) (sym at)
+        unrecorded = subst (λ (s : RunStage). NoRecordYet s d (cells_of after)) (sym at)
             (λ x is p node low n.
             let same : m.desc.which ≡ x.desc.which = ap (λ (y : Manifest). y.desc.which) (some_one (with_rows m rank rows) x is) in
             every_record (cells_of states) (cells_of after) c.places c.shape.ranks (place_of_rank c.places c.shape.ranks rank) m.desc.which rank j (row_named c.shape c.run m rank j (h.well.sets m (inl opened)) lt small) change x.desc.which p node n
             ∙ ap (λ (w : DataId). cells_of states p (record_name w node)) (sym same) ∙ none m opened p node low (subst (λ (w : DataId). IsPlace w node) (sym same) n));
-        working = subst (λ (s : Stage). WorkIs s d after) (sym at) work;
+        working = subst (λ (s : RunStage). WorkIs s d after) (sym at) work;
       } in
       leads_up first d programs after events' (ap is_up at) l where
         some_one : (a b : Manifest) → Some a ≡ Some b → a ≡ b
@@ -199,23 +199,23 @@ new_contents old new places ranks place which rank j is change was put = fun_ext
       ∙ sym (ap (λ (x : DataId). contents_in old places ranks x r i) same.which_is ∙ ap (λ (x : ℕ). contents_in old places ranks which x i) same.rank_is ∙ ap (λ (x : ℕ). contents_in old places ranks which rank x) same.file_is)
 
 -- the step with which a rank goes on
-pub record IsNextStep (programs : List (List Step)) (c : Core) (rank : ℕ) (seat : Seat) (call : Step) : Type 0 where
+pub record IsNextStep (programs : List (List Step)) (c : RunState) (rank : ℕ) (seat : Seat) (call : Step) : Type 0 where
   pub seat_is : slice_get c.ranks rank ≡ Some seat
   pub free : is_free seat.doing ≡ true
   pub goes : seat.ended ≡ false
   pub of_program : Rattle.ckpt_model.specs.Legal.is_step_of programs rank (seat.number + 1) call
   pub clear : local_verdict_of c rank call ≡ None
 
-rank_lt : (c : Core) (m : Manifest) (rank : ℕ) (seat : Seat) → IsWell c → c.opened ≡ Some m → slice_get c.ranks rank ≡ Some seat → rank < length m.files
+rank_lt : (c : RunState) (m : Manifest) (rank : ℕ) (seat : Seat) → IsWell c → c.opened ≡ Some m → slice_get c.ranks rank ≡ Some seat → rank < length m.files
 rank_lt c m rank seat w opened at = omega (arith, slice_get_within c.ranks rank seat at, w.ranks, (w.sets m (inl opened)).files.ranks_are)
 
-rank_low : (c : Core) (rank : ℕ) (seat : Seat) → IsWell c → slice_get c.ranks rank ≡ Some seat → rank < c.shape.nodes * c.shape.ranks
+rank_low : (c : RunState) (rank : ℕ) (seat : Seat) → IsWell c → slice_get c.ranks rank ≡ Some seat → rank < c.shape.nodes * c.shape.ranks
 rank_low c rank seat w at = omega (arith, slice_get_within c.ranks rank seat at, w.ranks)
 
 written_nothing : (old : List ℕ) → old ≡ [] → written old 0 [] ≡ []
 written_nothing old is = ap (λ (o : List ℕ). written o 0 []) is
 
-pub routed_new : (first : Machine) (c : Core) (programs : List (List Step)) (states after : ℕ → DeviceState) (events events' : List Event) (rank : ℕ) (seat : Seat) (name : List ℕ) (m : Manifest) (part : List ℕ)
+pub routed_new : (first : Machine) (c : RunState) (programs : List (List Step)) (states after : ℕ → DeviceState) (events events' : List Event) (rank : ℕ) (seat : Seat) (name : List ℕ) (m : Manifest) (part : List ℕ)
     → c.stage ≡ stage.Serving → c.phase ≡ phase.Output → IsNextStep programs c rank seat (step.Route name) → c.opened ≡ Some m → is_routed (rows_of m.files rank) name ≡ false → IsRows (routed (rows_of m.files rank) name)
     → OnlyAt (place_of_rank c.places c.shape.ranks rank) (Written (file_name m.desc.which c.shape.ranks rank (length (rows_of m.files rank))) 0 []) states after → Tells states
     → part ≡ part_name m.desc.which (rank / c.shape.ranks) (rank % c.shape.ranks) (place_of (rows_of m.files rank) name)
@@ -227,7 +227,7 @@ routed_new first c programs states after events events' rank seat name m part at
     let j = length rows in
     let place = place_of_rank c.places c.shape.ranks rank in
     let file = file_name m.desc.which c.shape.ranks rank j in
-    let work : WorkIs stage.Serving c states = subst (λ (s : Stage). WorkIs s c states) at h.working in
+    let work : WorkIs stage.Serving c states = subst (λ (s : RunStage). WorkIs s c states) at h.working in
     let of = h.well.sets m (inl opened) in
     let lt = rank_lt c m rank seat h.well opened next.seat_is in
     let small : j < 2 ^ 8 = omega (arith, few_rows c.shape c.run m rank of lt) in
@@ -246,11 +246,11 @@ routed_new first c programs states after events events' rank seat name m part at
     next.of_program refl more
 
 -- none of the datasets in cache is the open one
-are_other : (n : ℕ) (which : DataId) (sets : List Cached) → Rattle.site_core.specs.Choosing.AreBelow n sets → n ≡ which.id → AreOther which sets
+are_other : (n : ℕ) (which : DataId) (sets : List Cached) → Rattle.site_state.specs.Choosing.AreBelow n sets → n ≡ which.id → AreOther which sets
 are_other n which [] below is = NoneMore
 are_other n which (x ∷ xs) below is = Other x xs (λ same. absurd (omega (arith, below.0, is, ap (λ (d : DataId). d.id) same))) (are_other n which xs below.1 is)
 
-pub wrote : (first : Machine) (c : Core) (programs : List (List Step)) (states after : ℕ → DeviceState) (events events' : List Event) (rank : ℕ) (seat : Seat) (name : List ℕ) (at : ℕ) (content : Content) (m : Manifest)
+pub wrote : (first : Machine) (c : RunState) (programs : List (List Step)) (states after : ℕ → DeviceState) (events events' : List Event) (rank : ℕ) (seat : Seat) (name : List ℕ) (at : ℕ) (content : Content) (m : Manifest)
     → c.stage ≡ stage.Serving → IsNextStep programs c rank seat (step.Write name at content) → c.opened ≡ Some m → is_routed (rows_of m.files rank) name ≡ true → place_of (rows_of m.files rank) name < length (rows_of m.files rank)
     → IsRows (rows_of m.files rank) → IsRows (extended (rows_of m.files rank) (place_of (rows_of m.files rank) name) (at + length (bytes_for content rank)))
     → OnlyAt (place_of_rank c.places c.shape.ranks rank) (Written (file_name m.desc.which c.shape.ranks rank (place_of (rows_of m.files rank) name)) at (bytes_for content rank)) states after → Tells states
@@ -263,7 +263,7 @@ wrote first c programs states after events events' rank seat name at content m s
     let new = bytes_for content rank in
     let place = place_of_rank c.places c.shape.ranks rank in
     let file = file_name m.desc.which c.shape.ranks rank j in
-    let work : WorkIs stage.Serving c states = subst (λ (s : Stage). WorkIs s c states) st h.working in
+    let work : WorkIs stage.Serving c states = subst (λ (s : RunStage). WorkIs s c states) st h.working in
     let of = h.well.sets m (inl opened) in
     let lt = rank_lt c m rank seat h.well opened next.seat_is in
     let small : j < 2 ^ 8 = omega (arith, fit.few, low) in

@@ -16,25 +16,26 @@ use Rattle.ckpt_model.specs.declared.event.Event.TheVariants as event
 use Rattle.ckpt_model.specs.Machine.{Machine}
 use Rattle.round_core.specs.declared.seat.Seat.{Seat}
 use Rattle.round_core.specs.Seats.{stepped}
-use Rattle.site_core.specs.declared.core_moves.Spot.{Spot}
-use Rattle.site_core.specs.declared.core_state.Core.{Core}
-use Rattle.site_core.specs.declared.core_state.Stage.TheVariants as stage
-use Rattle.site_core.specs.declared.error.Trouble.{Trouble}
+use Rattle.site_state.specs.declared.run_moves.Spot.{Spot}
+use Rattle.site_state.specs.declared.run_state.RunState.{RunState}
+use Rattle.site_state.specs.declared.run_state.RunStage.TheVariants as stage
+use Rattle.site_calls.specs.declared.trouble.Trouble.{Trouble}
 use Rattle.site_core.specs.declared.site.Site.{Site}
-use Rattle.site_core.specs.Choosing.{local_verdict_of, rows_at}
-use Rattle.site_core.specs.Cores.{IsSpot}
-use Rattle.site_core.specs.Calls.{Refused, KeptAlike}
-use Rattle.site_core.specs.Causes.{CallCause, told_trouble}
+use Rattle.site_state.specs.Choosing.{local_verdict_of, rows_at}
+use Rattle.site_state.specs.Cores.{IsSpot}
+use Rattle.site_calls.specs.Calls.{Refused, KeptAlike}
+use Rattle.site_calls.specs.Causes.{CallCause, told_trouble}
 use Rattle.site_core.specs.Holds.{Leads, IsPending}
 use Rattle.site_core.specs.Follows.{Follows, Keeps, Tells, IsOfRank, IsRefusedFor}
-use Rattle.site_core.specs.Steps.{IsNextLocal}
+use Rattle.site_state.specs.Steps.{IsNextLocal}
 use Rattle.site_core.proofs.Told.{is_up, led}
 use Rattle.site_core.proofs.LocalSteps.{spot_file, spot_place, hand_rows, hand_opened}
-use Rattle.site_core.proofs.Puts.{few_ranks, few_rows, node_below, place_is}
+use Rattle.site_state.proofs.Shapes.{few_ranks}
+use Rattle.site_core.proofs.Puts.{few_rows, node_below, place_is}
 use Rattle.site_core.proofs.Refusals.{cells_alike, refused_rest, alike_rest, refused_told, refused_for, told_faults}
 use Rattle.site_core.proofs.Turns.{tells_one}
 
-module _ (first : Machine) (c : Core) (programs : List (List Step)) (states after : ℕ → DeviceState) (events events' : List Event) (rank : ℕ) (call : Step) (r : Refusal) (seat : Seat)
+module _ (first : Machine) (c : RunState) (programs : List (List Step)) (states after : ℕ → DeviceState) (events events' : List Event) (rank : ℕ) (call : Step) (r : Refusal) (seat : Seat)
     (at : c.stage ≡ stage.Serving) (next : IsNextLocal programs c rank call) (clear : local_verdict_of c rank call ≡ None) (fault : is_fault (reply.Refused r) ≡ true) (may : may_fault_local call (reply.Refused r) ≡ true)
     (here : slice_get c.ranks rank ≡ Some seat) (more : events' ≡ events ++ event.Local rank (seat.number + 1) call (reply.Refused r) ∷ []) (leads : Leads first c programs states events) where
   -- a write to a file of the open dataset
@@ -72,10 +73,10 @@ module _ {D : Type 0} (state : D → DeviceState) (old new : Site D) (mid : Rack
 
   module _ (core : new.core ≡ record old.core { ranks = slice_set old.core.ranks rank (stepped seat) }) (programs : new.programs ≡ old.programs)
       (at : old.core.stage ≡ stage.Serving) (next : IsNextLocal old.programs old.core rank call) (clear : local_verdict_of old.core rank call ≡ None) (may : may_fault_local call (reply.Refused r) ≡ true) where
-    refused_so : (first : Machine) → Leads first (let x : Core = record old.core { ranks = slice_set old.core.ranks rank (stepped seat) } in x) old.programs (states_of state mid) new.history.events → Follows state first new
-    refused_so first l = subst (λ (x : Core). Leads first x new.programs (states_of state new.bay) new.history.events) (sym core)
-        (subst (λ (ps : List (List Step)). Leads first (let x : Core = record old.core { ranks = slice_set old.core.ranks rank (stepped seat) } in x) ps (states_of state new.bay) new.history.events) (sym programs)
-        (subst (λ (b : Rack D). Leads first (let x : Core = record old.core { ranks = slice_set old.core.ranks rank (stepped seat) } in x) old.programs (states_of state b) new.history.events) (sym bay) l))
+    refused_so : (first : Machine) → Leads first (let x : RunState = record old.core { ranks = slice_set old.core.ranks rank (stepped seat) } in x) old.programs (states_of state mid) new.history.events → Follows state first new
+    refused_so first l = subst (λ (x : RunState). Leads first x new.programs (states_of state new.bay) new.history.events) (sym core)
+        (subst (λ (ps : List (List Step)). Leads first (let x : RunState = record old.core { ranks = slice_set old.core.ranks rank (stepped seat) } in x) ps (states_of state new.bay) new.history.events) (sym programs)
+        (subst (λ (b : Rack D). Leads first (let x : RunState = record old.core { ranks = slice_set old.core.ranks rank (stepped seat) } in x) old.programs (states_of state b) new.history.events) (sym bay) l))
 
     pub keeps_put : (file : ℕ) (spot : Spot) → old.core.phase ≡ phase.Output → IsSpot old.core rank file spot → file ≤ length (rows_at old.core rank) → OnlyAt spot.place (Refused (part_name spot.which spot.node spot.part)) (states_of state old.bay) (states_of state mid)
         → Keeps state old new

@@ -15,10 +15,10 @@ use Rattle.member_store.specs.declared.part.Part.TheVariants.{File}
 use Rattle.ckpt_model.specs.Dataset.{Dataset}
 use Rattle.ckpt_model.specs.Machine.{Setup, Kept}
 use Rattle.filemap.specs.Maps.{rows_of}
-use Rattle.site_core.specs.declared.cache.Cached.{Cached}
-use Rattle.site_core.specs.declared.cache.Manifest.{Manifest}
-use Rattle.site_core.specs.declared.core_state.Core.{Core}
-use Rattle.site_core.specs.Shown.{all_files, kept_of}
+use Rattle.site_state.specs.declared.cache.Cached.{Cached}
+use Rattle.site_state.specs.declared.cache.Manifest.{Manifest}
+use Rattle.site_state.specs.declared.run_state.RunState.{RunState}
+use Rattle.site_state.specs.Shown.{all_files, kept_of}
 use Rattle.site_core.specs.Stored.{Cells, cells_of, contents_in, is_named, place_of_rank, file_name, FilesStand, FileStands, RecordsStand, RecordIs, IsAmong, IsWell, NoOtherRecords, NoFutureFiles, stored_run}
 use Rattle.site_core.proofs.Frames.{IsNamed, named, is_place, data-same, mod_small, place_named}
 use Rattle.site_core.proofs.Names.{members-same}
@@ -93,7 +93,7 @@ not_of_other which other node place name w o differs of_other of =
 
 -- ## What the datasets in cache keep
 
-module _ (c : Core) (m : Manifest) (n place : ℕ) (old new : Cells) (w : IsWell c) (opened : c.opened ≡ Some m) (small : n < 2 ^ 8) (low : place < 32) (loss : Loses m.desc.which n place old new) where
+module _ (c : RunState) (m : Manifest) (n place : ℕ) (old new : Cells) (w : IsWell c) (opened : c.opened ≡ Some m) (small : n < 2 ^ 8) (low : place < 32) (loss : Loses m.desc.which n place old new) where
   here : IsPlace m.desc.which n
   here = is_place m.desc n small
 
@@ -130,7 +130,7 @@ module _ (c : Core) (m : Manifest) (n place : ℕ) (old new : Cells) (w : IsWell
   prefix_same = fun_ext (λ q. loss.elsewhere 32 q (λ e. absurd (omega (arith, e, low))))
 
   pub stored_same : stored_run new ≡ stored_run old
-  stored_same = ap (λ (f : List ℕ → Option (List ℕ)). Rattle.site_core.specs.Stored.run_number (Rattle.gated_record.specs.Pair.pair_value (codes "run") f)) prefix_same
+  stored_same = ap (λ (f : List ℕ → Option (List ℕ)). Rattle.site_calls.specs.Numbers.run_number (Rattle.gated_record.specs.Pair.pair_value (codes "run") f)) prefix_same
 
   pub kept_same : (s : Setup) → map (kept_of s (contents_in new c.places c.shape.ranks) c.places) c.kept ≡ map (kept_of s (contents_in old c.places c.shape.ranks) c.places) c.kept
   kept_same s = each c.kept (λ i x at. other_contents x.manifest.desc.which (kept_other c m x.manifest w opened (i, x, at, refl))) where

@@ -7,28 +7,29 @@ use Rattle.node_device.specs.Outcomes.{rest_leaves}
 use Rattle.gated_record.specs.Pair.{value_in, newer, copy_name, pair_value, MayFollow, next_version}
 use Rattle.gated_record.specs.declared.pair.PairValue.{PairValue}
 use Rattle.ckpt_model.specs.declared.event.Event.{Event}
-use Rattle.ckpt_model.specs.Machine.{Machine, Setup}
+use Rattle.ckpt_model.specs.Machine.{Machine}
 use Rattle.halt_file.specs.Conditions.{conditions}
 use Rattle.halt_file.specs.declared.halt.Halt.{Halt}
-use Rattle.site_core.specs.declared.core_state.Core.{Core}
-use Rattle.site_core.specs.declared.core_state.Stage.{Stage}
-use Rattle.site_core.specs.declared.core_state.Stage.TheVariants as stage
-use Rattle.site_core.specs.Numbers.{way_of}
-use Rattle.site_core.specs.Shown.{setup_of, kept_of}
-use Rattle.site_core.specs.Stored.{cells_of, contents_in, stored_run, stored_halt, run_number, FilesStand, RecordsStand, NoOtherRecords}
+use Rattle.site_state.specs.declared.run_state.RunState.{RunState}
+use Rattle.site_state.specs.declared.run_state.RunStage.{RunStage}
+use Rattle.site_state.specs.declared.run_state.RunStage.TheVariants as stage
+use Rattle.site_calls.specs.Numbers.{way_of}
+use Rattle.site_state.specs.Shown.{setup_of, kept_of}
+use Rattle.site_calls.specs.Numbers.{run_number}
+use Rattle.site_core.specs.Stored.{cells_of, contents_in, stored_run, stored_halt, FilesStand, RecordsStand, NoOtherRecords}
 use Rattle.site_core.specs.Holds.{HoldsAt, ToldAt, Leads, IsOneOf, settled_set, IsBegun, IsStoring}
 
-pub begun_at : (s : Stage) (c : Core) (states : ℕ → DeviceState) (m : Machine) → s ≡ stage.Begun → HoldsAt s c states m → IsBegun c states m
-begun_at s c states m e h = subst (λ (x : Stage). HoldsAt x c states m) e h
+pub begun_at : (s : RunStage) (c : RunState) (states : ℕ → DeviceState) (m : Machine) → s ≡ stage.Begun → HoldsAt s c states m → IsBegun c states m
+begun_at s c states m e h = subst (λ (x : RunStage). HoldsAt x c states m) e h
 
-pub told_begun : (s : Stage) (places : List ℕ) (programs : List (List Step)) (events : List Event) → s ≡ stage.Begun → ToldAt s places programs events → events ≡ []
-told_begun s places programs events e h = subst (λ (x : Stage). ToldAt x places programs events) e h
+pub told_begun : (s : RunStage) (places : List ℕ) (programs : List (List Step)) (events : List Event) → s ≡ stage.Begun → ToldAt s places programs events → events ≡ []
+told_begun s places programs events e h = subst (λ (x : RunStage). ToldAt x places programs events) e h
 
-pub storing_at : (s : Stage) (c : Core) (states : ℕ → DeviceState) (m : Machine) → s ≡ stage.Storing → HoldsAt s c states m → IsStoring c states m
-storing_at s c states m e h = subst (λ (x : Stage). HoldsAt x c states m) e h
+pub storing_at : (s : RunStage) (c : RunState) (states : ℕ → DeviceState) (m : Machine) → s ≡ stage.Storing → HoldsAt s c states m → IsStoring c states m
+storing_at s c states m e h = subst (λ (x : RunStage). HoldsAt x c states m) e h
 
-pub told_storing : (s : Stage) (places : List ℕ) (programs : List (List Step)) (events : List Event) → s ≡ stage.Storing → ToldAt s places programs events → events ≡ []
-told_storing s places programs events e h = subst (λ (x : Stage). ToldAt x places programs events) e h
+pub told_storing : (s : RunStage) (places : List ℕ) (programs : List (List Step)) (events : List Event) → s ≡ stage.Storing → ToldAt s places programs events → events ≡ []
+told_storing s places programs events e h = subst (λ (x : RunStage). ToldAt x places programs events) e h
 
 -- ## The number is found
 
@@ -40,10 +41,10 @@ may_follow None n fits is = tt
 may_follow (Some value) n fits is = inr (next_below n fits ∙ ap next_version is)
 
 -- the run with this number, which is on its way
-abbrev pub numbered_core : Core → ℕ → Halt → Core
+abbrev pub numbered_core : RunState → ℕ → Halt → RunState
 numbered_core c run halt = record c { stage = stage.Storing; run = run; halt = halt; storing = way_of run }
 
-pub numbered : (first : Machine) (c : Core) (programs : List (List Step)) (states : ℕ → DeviceState) (events : List Event) (n : ℕ) (halt : Halt) → c.stage ≡ stage.Begun → n + 1 < 2 ^ 32 → n ≡ stored_run (cells_of states)
+pub numbered : (first : Machine) (c : RunState) (programs : List (List Step)) (states : ℕ → DeviceState) (events : List Event) (n : ℕ) (halt : Halt) → c.stage ≡ stage.Begun → n + 1 < 2 ^ 32 → n ≡ stored_run (cells_of states)
     → conditions halt ≡ stored_halt (cells_of states) → Leads first c programs states events → Leads first (numbered_core c (n + 1) halt) programs states events
 numbered first c programs states events n halt at fits is told leads =
     let m = leads.state in

@@ -2,7 +2,6 @@
 use Rattle.std.proofs.Common.{◌≡◌, ◌≢◌, ◌⊎◌, inl, inr, ℕ, zero, suc, ◌+◌, ◌*◌, ◌/◌, ◌<◌, ◌≤◌, ◌^◌, true, List, [], ◌∷◌, length, Option, Some, None, refl, sym, ap, ◌∙◌, subst, slice_get, arith}
 use Rattle.std.specs.Prelude.{slice_index}
 use Rattle.std.proofs.lemmas.Bool.{cases_eq}
-use Rattle.std.proofs.lemmas.Bool.Decides.{nat_tests}
 use Rattle.std.proofs.lemmas.Option.{slice_get_within}
 use Rattle.std.proofs.lemmas.List.{get_or-set_same, get_or-set_other, get_or_past, length-set}
 use Rattle.std.proofs.lemmas.List.FromFn.{get_or-range_with_len, length-range_with_len}
@@ -15,14 +14,15 @@ use Rattle.node_device.specs.DeviceState.{DeviceState, ChangesOnly}
 use Rattle.node_device.specs.Rack.{OnlyAt}
 use Rattle.filemap.specs.Maps.{rows_of}
 use Rattle.filemap.specs.declared.rows.FileRow.{FileRow}
-use Rattle.site_core.specs.declared.cache.Cached.{Cached}
-use Rattle.site_core.specs.declared.cache.Manifest.{Manifest}
-use Rattle.site_core.specs.Cores.{with_rows, with_open}
-use Rattle.site_core.specs.declared.core_state.Core.{Core}
-use Rattle.site_core.specs.Choosing.{AreBelow}
+use Rattle.site_state.specs.declared.cache.Cached.{Cached}
+use Rattle.site_state.specs.declared.cache.Manifest.{Manifest}
+use Rattle.site_state.specs.Cores.{with_rows, with_open}
+use Rattle.site_state.specs.declared.run_state.RunState.{RunState}
+use Rattle.site_state.specs.Choosing.{AreBelow}
 use Rattle.site_core.specs.Stored.{Cells, cells_of, place_of_rank, file_name, FilesStand, FileStands, RecordIs, IsAmong, IsKnown, IsFuture, NoMoreFiles, IsWell, IsOfSite, FilesHold, ChangesFile}
 use Rattle.site_core.proofs.Halts.{halt_same, unindexed_same}
 use Rattle.site_core.proofs.Frames.{IsNamed, is_place, AreFilesSame, other_file, every_record, records_stay, future_stays, prefix_stays, stored_stays}
+use Rattle.site_state.proofs.Shapes.{few_ranks, few_nodes, some_ranks}
 
 -- ## A device's file
 
@@ -44,15 +44,6 @@ rest_stays place name old new done p q other rest = pick (cases_eq p place) wher
   pick (inr away) = subst (λ (d : DeviceState). IsAtRest (d.file q)) (sym (done.others p away)) rest
 
 -- ## Numbers
-
-pub few_ranks : (shape : Shape) → shape.nodes * shape.ranks ≤ 64
-few_ranks shape = grind (arith, nat_tests, shape.limits)
-
-pub few_nodes : (shape : Shape) → shape.nodes ≤ 16
-few_nodes shape = grind (arith, nat_tests, shape.limits)
-
-pub some_ranks : (shape : Shape) → 0 < shape.ranks
-some_ranks shape = grind (arith, nat_tests, shape.limits)
 
 -- a row is a file of a rank that there is
 pub row_rank : (files : List (List FileRow)) (rank j : ℕ) (row : FileRow) → slice_get (rows_of files rank) j ≡ Some row → rank < length files
@@ -79,7 +70,7 @@ node_below shape rank lt = (div-lt_iff_lt-mul {k = shape.ranks} {x = rank} {y = 
 pub place_is : (shape : Shape) (places : List ℕ) (node : ℕ) → places ≡ numbers_below shape.nodes → node < shape.nodes → slice_index places node ≡ node
 place_is shape places node is lt = ap (λ (ps : List ℕ). slice_index ps node) is ∙ get_or-range_with_len 0 shape.nodes node 0 lt ∙ (let e : 0 + node ≡ node = omega arith in e)
 
-pub rank_place_low : (c : Core) (rank : ℕ) → IsWell c → rank < c.shape.nodes * c.shape.ranks → place_of_rank c.places c.shape.ranks rank < 32
+pub rank_place_low : (c : RunState) (rank : ℕ) → IsWell c → rank < c.shape.nodes * c.shape.ranks → place_of_rank c.places c.shape.ranks rank < 32
 rank_place_low c rank w lt = omega (arith, place_is c.shape c.places (rank / c.shape.ranks) w.places (node_below c.shape rank lt), node_below c.shape rank lt, few_nodes c.shape)
 
 pub below_of : (n : ℕ) (sets : List Cached) (i : ℕ) (x : Cached) → AreBelow n sets → slice_get sets i ≡ Some x → x.manifest.desc.which.id < n
@@ -90,7 +81,7 @@ below_of n (y ∷ ys) zero x below at = subst (λ (z : Cached). z.manifest.desc.
 below_of n (y ∷ ys) (suc i) x below at = below_of n ys i x below.1 at
 
 -- a dataset in cache isn't the open one
-pub kept_other : (c : Core) (m x : Manifest) → IsWell c → c.opened ≡ Some m → IsAmong c.kept x → x.desc.which ≢ m.desc.which
+pub kept_other : (c : RunState) (m x : Manifest) → IsWell c → c.opened ≡ Some m → IsAmong c.kept x → x.desc.which ≢ m.desc.which
 kept_other c m x w opened among same =
     let below = below_of m.desc.which.id c.kept among.0 among.1 (w.opened_last m opened) among.2 in
     absurd (omega (arith, below, ap (λ (y : Manifest). y.desc.which.id) among.3, ap (λ (d : DataId). d.id) same))
@@ -107,7 +98,7 @@ pub record IsPutRow (old new : List FileRow) (j len : ℕ) : Type 0 where
 some-eq : {X : Type 0} (x y : X) → Some x ≡ Some y → x ≡ y
 some-eq x y e = cc
 
-module _ (c : Core) (m : Manifest) (rank j : ℕ) (rows : List FileRow) (bytes : List ℕ) (old new : Cells) (ranks : List Rattle.round_core.specs.declared.seat.Seat.Seat)
+module _ (c : RunState) (m : Manifest) (rank j : ℕ) (rows : List FileRow) (bytes : List ℕ) (old new : Cells) (ranks : List Rattle.round_core.specs.declared.seat.Seat.Seat)
     (w : IsWell c) (f : FilesHold c old) (opened : c.opened ≡ Some m) (lt : rank < length m.files) (small : j < 2 ^ 8)
     (row : IsPutRow (rows_of m.files rank) rows j (length bytes))
     (change : ChangesFile (place_of_rank c.places c.shape.ranks rank) (file_name m.desc.which c.shape.ranks rank j) old new)

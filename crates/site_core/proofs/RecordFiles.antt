@@ -15,16 +15,17 @@ use Rattle.gated_record.specs.Record.{HasBody, AreShut, is_open, open_gate_byte}
 use Rattle.filemap.specs.Maps.{rows_of}
 use Rattle.member_store.specs.Names.{record_name, part_name, IsPlace}
 use Rattle.member_store.specs.declared.part.Part.TheVariants.{File}
-use Rattle.site_core.specs.declared.cache.Cached.{Cached}
-use Rattle.site_core.specs.declared.cache.Manifest.{Manifest}
-use Rattle.site_core.specs.declared.core_state.Core.{Core}
-use Rattle.site_core.specs.Choosing.{is_being_sealed}
-use Rattle.site_core.specs.Calls.{Synced}
-use Rattle.site_core.specs.Stored.{Cells, cells_of, contents_in, contents_of, is_named, place_of_rank, file_name, FilesStand, FileStands, RecordIs, IsAmong, IsKnown, NoOtherRecords, NoFutureFiles, NoMoreFiles, IsWell, IsOfSite, FilesHold, stored_run, ChangesFile}
+use Rattle.site_state.specs.declared.cache.Cached.{Cached}
+use Rattle.site_state.specs.declared.cache.Manifest.{Manifest}
+use Rattle.site_state.specs.declared.run_state.RunState.{RunState}
+use Rattle.site_state.specs.Choosing.{is_being_sealed}
+use Rattle.site_calls.specs.Calls.{Synced}
+use Rattle.site_core.specs.Stored.{Cells, cells_of, contents_of, is_named, place_of_rank, file_name, FileStands, RecordIs, IsKnown, IsWell, FilesHold, ChangesFile}
 use Rattle.site_core.proofs.Halts.{halt_same, unindexed_same}
 use Rattle.site_core.proofs.Names.{records-same, part_no_record}
 use Rattle.site_core.proofs.Frames.{IsNamed, named, is_place, data-same, file_no_record}
-use Rattle.site_core.proofs.Puts.{row_named, row_rank, few_rows, few_nodes}
+use Rattle.site_core.proofs.Puts.{row_named, row_rank, few_rows}
+use Rattle.site_state.proofs.Shapes.{few_nodes}
 
 -- ## Gates
 
@@ -70,10 +71,10 @@ synced_rest place old new done p q rest = pick (cases_eq p place) where
 
 -- ## A record
 
-pub node_small : (c : Core) (node p : ℕ) → IsWell c → slice_get c.places node ≡ Some p → node < 2 ^ 8
+pub node_small : (c : RunState) (node p : ℕ) → IsWell c → slice_get c.places node ≡ Some p → node < 2 ^ 8
 node_small c node p w home = omega (arith, slice_get_within c.places node p home, ap length w.places, length-range_with_len 0 c.shape.nodes, few_nodes c.shape)
 
-module _ (c : Core) (m : Manifest) (node place : ℕ) (old new : Cells) (w : IsWell c) (f : FilesHold c old) (known : IsKnown c m) (home : slice_get c.places node ≡ Some place)
+module _ (c : RunState) (m : Manifest) (node place : ℕ) (old new : Cells) (w : IsWell c) (f : FilesHold c old) (known : IsKnown c m) (home : slice_get c.places node ≡ Some place)
     (apart : (i : ℕ) (x : Cached) → slice_get c.kept i ≡ Some x → is_being_sealed x.mark ≡ false → x.manifest.desc.which ≢ m.desc.which)
     (low : place < 32) (change : ChangesFile place (record_name m.desc.which node) old new) where
   here : IsPlace m.desc.which node
@@ -97,7 +98,7 @@ module _ (c : Core) (m : Manifest) (node place : ℕ) (old new : Cells) (w : IsW
 
   pub record_holds : FilesHold c new
   record_holds = record {
-    stored = ap (λ (g : List ℕ → Option (List ℕ)). Rattle.site_core.specs.Stored.run_number (Rattle.gated_record.specs.Pair.pair_value (codes "run") g)) prefix_same ∙ f.stored;
+    stored = ap (λ (g : List ℕ → Option (List ℕ)). Rattle.site_calls.specs.Numbers.run_number (Rattle.gated_record.specs.Pair.pair_value (codes "run") g)) prefix_same ∙ f.stored;
     halted = halt_same old new prefix_same ∙ f.halted;
     unindexed = unindexed_same old new prefix_same f.unindexed;
     files = λ x is rank j row at.

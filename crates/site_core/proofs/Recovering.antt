@@ -15,21 +15,21 @@ use Rattle.ckpt_model.specs.Steps.{are_places, are_distinct, physical_count, may
 use Rattle.ckpt_model.specs.Runs.{StepsTo}
 use Rattle.ckpt_model.proofs.RunLemmas.{run_on}
 use Rattle.round_core.specs.Seats.{fresh_seat}
-use Rattle.site_core.specs.declared.cache.Cached.{Cached}
-use Rattle.site_core.specs.declared.cache.Manifest.{Manifest}
-use Rattle.site_core.specs.declared.cache.Mark.TheVariants as mark
-use Rattle.site_core.specs.declared.core_state.Core.{Core}
-use Rattle.site_core.specs.declared.core_state.Stage.{Stage}
-use Rattle.site_core.specs.declared.core_state.Stage.TheVariants as stage
-use Rattle.site_core.specs.Shown.{Contents, running, begun, setup_of, kept_of, come_to, settled_if, mends, row_of, greatest_id, rank_of}
-use Rattle.site_core.specs.Choosing.{AscendFrom, AreBelow, seals}
+use Rattle.site_state.specs.declared.cache.Cached.{Cached}
+use Rattle.site_state.specs.declared.cache.Manifest.{Manifest}
+use Rattle.site_state.specs.declared.cache.Mark.TheVariants as mark
+use Rattle.site_state.specs.declared.run_state.RunState.{RunState}
+use Rattle.site_state.specs.declared.run_state.RunStage.{RunStage}
+use Rattle.site_state.specs.declared.run_state.RunStage.TheVariants as stage
+use Rattle.site_state.specs.Shown.{Contents, running, begun, setup_of, kept_of, come_to, settled_if, mends, row_of, greatest_id, rank_of}
+use Rattle.site_state.specs.Choosing.{AscendFrom, AreBelow, seals}
 use Rattle.site_core.specs.Stored.{cells_of, contents_of, FilesStand, RecordsStand, IsKnown, NoOtherRecords, IsFuture}
 use Rattle.site_core.specs.Holds.{Leads, StoreHolds, IsOneOf, settled_set, IsFresh, IsLooking, IsQuiet, IsUp, IsPending, IsSoFar, WorkIs, NoRecordYet}
 use Rattle.site_core.proofs.Told.{is_up, led, leads_up, tells_more}
-use Rattle.site_core.proofs.Finds.{finds}
-use Rattle.site_core.proofs.Seals.{mended}
+use Rattle.site_state.proofs.Finds.{finds}
+use Rattle.site_state.proofs.Seals.{mended}
 use Rattle.site_core.proofs.SaveEnds.{settled-at, settled-there, settled-manifest, ascend-settled, below-settled, none-if, none-passes}
-use Rattle.site_core.proofs.Ranks.{map-map}
+use Rattle.site_state.proofs.Ranks.{map-map}
 
 some_same : {X : Type 0} (x y : X) → Some x ≡ Some y → x ≡ y
 some_same x y e = cc
@@ -41,7 +41,7 @@ abbrev pub found_set : Manifest → Cached
 found_set m = record { manifest = m; mark = mark.Mending }
 
 -- the run has found these
-abbrev pub found_core : Core → List Manifest → Core
+abbrev pub found_core : RunState → List Manifest → RunState
 found_core c sets = record c { stage = stage.Mending; kept = map found_set sets; next = greatest_id (map settled_set sets) + 1 }
 
 found-at : (sets : List Manifest) (i : ℕ) (x : Cached) → slice_get (map found_set sets) i ≡ Some x → (m : Manifest) × (slice_get sets i ≡ Some m) × (found_set m ≡ x)
@@ -71,13 +71,13 @@ none-sealed : (sets : List Manifest) → list_any seals (map found_set sets) ≡
 none-sealed [] = refl
 none-sealed (m ∷ ms) = none-sealed ms
 
-known_found : (c : Core) (sets : List Manifest) (m : Manifest) → c.opened ≡ None → IsKnown (found_core c sets) m → IsOneOf sets m
+known_found : (c : RunState) (sets : List Manifest) (m : Manifest) → c.opened ≡ None → IsKnown (found_core c sets) m → IsOneOf sets m
 known_found c sets m closed (inl e) = absurd (cc (closed, e))
 known_found c sets m closed (inr among) =
     let x = found-at sets among.0 among.1 among.2 in
     (among.0, x.1 ∙ ap (λ (y : Cached). Some y.manifest) x.2 ∙ ap Some among.3)
 
-found_known : (c : Core) (sets : List Manifest) (m : Manifest) → IsOneOf sets m → IsKnown (found_core c sets) m
+found_known : (c : RunState) (sets : List Manifest) (m : Manifest) → IsOneOf sets m → IsKnown (found_core c sets) m
 found_known c sets m one = inr (one.0, found_set m, found-there sets one.0 m one.1, refl)
 
 -- the ranks of a run that has begun
@@ -85,11 +85,11 @@ fresh-ranks : (n : ℕ) → map rank_of (replicate n fresh_seat) ≡ replicate n
 fresh-ranks zero = refl
 fresh-ranks (suc n) = ap (λ (rs : List Rattle.ckpt_model.specs.Machine.RankState). Rattle.ckpt_model.specs.Steps.fresh_rank ∷ rs) (fresh-ranks n)
 
-pub looking : (s : Stage) (c : Core) (states : ℕ → DeviceState) (m : Machine) → s ≡ stage.Looking → Rattle.site_core.specs.Holds.HoldsAt s c states m → IsLooking c states m
-looking s c states m e h = subst (λ (x : Stage). Rattle.site_core.specs.Holds.HoldsAt x c states m) e h
+pub looking : (s : RunStage) (c : RunState) (states : ℕ → DeviceState) (m : Machine) → s ≡ stage.Looking → Rattle.site_core.specs.Holds.HoldsAt s c states m → IsLooking c states m
+looking s c states m e h = subst (λ (x : RunStage). Rattle.site_core.specs.Holds.HoldsAt x c states m) e h
 
-told_looking : (s : Stage) (places : List ℕ) (programs : List (List Step)) (events : List Event) → s ≡ stage.Looking → Rattle.site_core.specs.Holds.ToldAt s places programs events → IsSoFar places programs events
-told_looking s places programs events e h = subst (λ (x : Stage). Rattle.site_core.specs.Holds.ToldAt x places programs events) e h
+told_looking : (s : RunStage) (places : List ℕ) (programs : List (List Step)) (events : List Event) → s ≡ stage.Looking → Rattle.site_core.specs.Holds.ToldAt s places programs events → IsSoFar places programs events
+told_looking s places programs events e h = subst (λ (x : RunStage). Rattle.site_core.specs.Holds.ToldAt x places programs events) e h
 
 first_place : (ns : List ℕ) → 0 < length ns → (p : ℕ) × ((rest : List ℕ) × (ns ≡ p ∷ rest))
 first_place [] lt = absurd (omega arith)
@@ -102,11 +102,11 @@ mending-found : (sets : List Manifest) → map (come_to mark.Mending) (map settl
 mending-found sets = map-map (come_to mark.Mending) settled_set found_set (λ m. refl) sets
 
 -- what recovery leaves in memory shows the state
-shown : (c : Core) (bytes : Contents) (next : ℕ) (sets : List Manifest) → IsFresh c
+shown : (c : RunState) (bytes : Contents) (next : ℕ) (sets : List Manifest) → IsFresh c
     → (let m : Machine = begun c next (map (kept_of (setup_of c) bytes c.places) (map found_set sets)) in record m { stage = Place.Running; next = greatest_id (map settled_set sets) + 1 }) ≡ running bytes (found_core c sets)
 shown c bytes next sets fresh = rw (fresh.phase_is, fresh.offer, fresh.opened, fresh.ranks, fresh.settled, fresh.needs, fresh.reading, fresh-ranks (c.shape.nodes * c.shape.ranks)) refl
 
-pub found : (first : Machine) (c : Core) (programs : List (List Step)) (states : ℕ → DeviceState) (events events' : List Event) (sets : List Manifest) (h : Leads first c programs states events) (at : c.stage ≡ stage.Looking)
+pub found : (first : Machine) (c : RunState) (programs : List (List Step)) (states : ℕ → DeviceState) (events events' : List Event) (sets : List Manifest) (h : Leads first c programs states events) (at : c.stage ≡ stage.Looking)
     → (looking c.stage c states h.state at h.holds).sets ≡ sets → 0 < c.shape.nodes
     → events' ≡ events ++ event.Found (map row_of (map settled_set sets)) [] ∷ [] → Leads first (found_core c sets) programs states events'
 found first c programs states events events' sets h at are some more =
@@ -167,15 +167,15 @@ found first c programs states events events' sets h at are some more =
 -- ## What was found is looked after
 
 -- a dataset that was found is settled
-pub mends_one : (first : Machine) (c : Core) (programs : List (List Step)) (states : ℕ → DeviceState) (events events' : List Event) (x : Cached) → c.stage ≡ stage.Mending → find mends c.kept ≡ Some x → Leads first c programs states events
+pub mends_one : (first : Machine) (c : RunState) (programs : List (List Step)) (states : ℕ → DeviceState) (events events' : List Event) (x : Cached) → c.stage ≡ stage.Mending → find mends c.kept ≡ Some x → Leads first c programs states events
     → events' ≡ events ++ event.Mended x.manifest.desc.which ∷ [] → Leads first (record c { kept = map (settled_if x.manifest.desc.which) c.kept }) programs states events'
 mends_one first c programs states events events' x at next leads more =
     let h = led first c programs states events (ap is_up at) leads in
-    let working : WorkIs stage.Mending c states = subst (λ (s : Stage). WorkIs s c states) at h.working in
+    let working : WorkIs stage.Mending c states = subst (λ (s : RunStage). WorkIs s c states) at h.working in
     let which = x.manifest.desc.which in
-    let d : Core = record c { kept = map (settled_if which) c.kept } in
+    let d : RunState = record c { kept = map (settled_if which) c.kept } in
     let bytes = contents_of (cells_of states) c in
-    let quiet = subst (λ (s : Stage). (p : ℕ) (q : List ℕ) → p ≤ 32 → (p < c.shape.nodes → IsPending s c q → ⊥) → IsAtRest ((states p).file q)) at h.quiet in
+    let quiet = subst (λ (s : RunStage). (p : ℕ) (q : List ℕ) → p ≤ 32 → (p < c.shape.nodes → IsPending s c q → ⊥) → IsAtRest ((states p).file q)) at h.quiet in
     let closed = working.0 in
     let none_sealed : list_any seals (map (settled_if which) c.kept) ≡ false = none-if seals (map (settled_if which) c.kept) (λ i y is. let z = settled-at which c.kept i y is in ap seals (sym z.2) ∙ kept_unsealed which z.0 (none-passes seals c.kept i z.0 working.1 z.1)) in
     leads_up first d programs states events' (ap is_up at) (record {
@@ -204,9 +204,9 @@ mends_one first c programs states events events' x at next leads more =
         future = h.files.future;
         fresh = h.files.fresh;
       };
-      quiet = subst (λ (s : Stage). (p : ℕ) (q : List ℕ) → p ≤ 32 → (p < c.shape.nodes → IsPending s d q → ⊥) → IsAtRest ((states p).file q)) (sym at) quiet;
-      unrecorded = subst (λ (s : Stage). NoRecordYet s d (cells_of states)) (sym at) (λ m e. absurd (cc (closed, e)));
-      working = subst (λ (s : Stage). WorkIs s d states) (sym at) (closed, none_sealed);
+      quiet = subst (λ (s : RunStage). (p : ℕ) (q : List ℕ) → p ≤ 32 → (p < c.shape.nodes → IsPending s d q → ⊥) → IsAtRest ((states p).file q)) (sym at) quiet;
+      unrecorded = subst (λ (s : RunStage). NoRecordYet s d (cells_of states)) (sym at) (λ m e. absurd (cc (closed, e)));
+      working = subst (λ (s : RunStage). WorkIs s d states) (sym at) (closed, none_sealed);
     }) where
       lower : (xs : List Cached) → AscendFrom 1 xs → AscendFrom 0 xs
       lower [] rise = tt
@@ -229,12 +229,12 @@ mends_one first c programs states events events' x at next leads more =
       known_after which y (inr among) = inr (among.0, settled_if which among.1, settled-there which c.kept among.0 among.1 among.2, settled-manifest which among.1 ∙ among.3)
 
 -- the last is looked after: the run serves
-pub serves_now : (first : Machine) (c : Core) (programs : List (List Step)) (states : ℕ → DeviceState) (events : List Event) → c.stage ≡ stage.Mending → list_any mends c.kept ≡ false → Leads first c programs states events → Leads first (record c { stage = stage.Serving }) programs states events
+pub serves_now : (first : Machine) (c : RunState) (programs : List (List Step)) (states : ℕ → DeviceState) (events : List Event) → c.stage ≡ stage.Mending → list_any mends c.kept ≡ false → Leads first c programs states events → Leads first (record c { stage = stage.Serving }) programs states events
 serves_now first c programs states events at none leads =
     let h = led first c programs states events (ap is_up at) leads in
-    let working : WorkIs stage.Mending c states = subst (λ (s : Stage). WorkIs s c states) at h.working in
-    let quiet = subst (λ (s : Stage). (p : ℕ) (q : List ℕ) → p ≤ 32 → (p < c.shape.nodes → IsPending s c q → ⊥) → IsAtRest ((states p).file q)) at h.quiet in
-    let d : Core = record c { stage = stage.Serving } in
+    let working : WorkIs stage.Mending c states = subst (λ (s : RunStage). WorkIs s c states) at h.working in
+    let quiet = subst (λ (s : RunStage). (p : ℕ) (q : List ℕ) → p ≤ 32 → (p < c.shape.nodes → IsPending s c q → ⊥) → IsAtRest ((states p).file q)) at h.quiet in
+    let d : RunState = record c { stage = stage.Serving } in
     leads_up first d programs states events refl (record {
       run = h.run;
       so_far = h.so_far;

@@ -16,21 +16,23 @@ use Rattle.ckpt_model.specs.Machine.{Machine}
 use Rattle.ckpt_model.specs.Runs.{RunsTo}
 use Rattle.round_core.specs.declared.seat.Seat.{Seat}
 use Rattle.round_core.specs.Seats.{stepped}
-use Rattle.site_core.specs.declared.core_state.Core.{Core}
-use Rattle.site_core.specs.declared.core_state.Stage.{Stage}
-use Rattle.site_core.specs.declared.core_state.Stage.TheVariants as stage
-use Rattle.site_core.specs.declared.error.Trouble.{Trouble}
-use Rattle.site_core.specs.declared.error.Trouble.TheVariants as error
-use Rattle.site_core.specs.Shown.{running, setup_of}
-use Rattle.site_core.specs.Choosing.{local_verdict_of}
+use Rattle.site_state.specs.declared.run_state.RunState.{RunState}
+use Rattle.site_state.specs.declared.run_state.RunStage.{RunStage}
+use Rattle.site_state.specs.declared.run_state.RunStage.TheVariants as stage
+use Rattle.site_calls.specs.declared.trouble.Trouble.{Trouble}
+use Rattle.site_calls.specs.declared.trouble.Trouble.TheVariants as error
+use Rattle.site_state.specs.Shown.{running, setup_of}
+use Rattle.site_state.specs.Choosing.{local_verdict_of}
 use Rattle.site_core.specs.Stored.{Cells, cells_of, contents_of, FilesHold}
-use Rattle.site_core.specs.Calls.{Refused, KeptAlike}
-use Rattle.site_core.specs.Causes.{CallCause, told_trouble, is_told, is_device_fault, cause_of}
+use Rattle.site_calls.specs.Calls.{Refused, KeptAlike}
+use Rattle.site_calls.specs.Causes.{CallCause, told_trouble}
+use Rattle.site_calls.specs.Causes.{is_device_fault}
+use Rattle.site_core.specs.Causes.{is_told, cause_of}
 use Rattle.site_core.specs.Holds.{Leads, WorkIs, NoRecordYet, IsPending}
 use Rattle.site_core.specs.Follows.{IsRefusedFor, IsEndedFor, IsWorkersEnd}
-use Rattle.site_core.specs.Steps.{IsNextLocal}
+use Rattle.site_state.specs.Steps.{IsNextLocal}
 use Rattle.site_core.proofs.Told.{is_up, led, leads_up}
-use Rattle.site_core.proofs.Locals.{faults_local}
+use Rattle.site_state.proofs.Locals.{faults_local}
 use Rattle.site_core.proofs.LocalSteps.{tells_local, same_seat}
 use Rattle.site_core.proofs.Serving.{at_work}
 
@@ -94,25 +96,25 @@ module _ (place : ℕ) (old new : ℕ → DeviceState) where
 
 -- ## A rank's own step that a device refused
 
-module _ (first : Machine) (c : Core) (programs : List (List Step)) (states after : ℕ → DeviceState) (events : List Event) (at : c.stage ≡ stage.Serving) (same : cells_of after ≡ cells_of states)
+module _ (first : Machine) (c : RunState) (programs : List (List Step)) (states after : ℕ → DeviceState) (events : List Event) (at : c.stage ≡ stage.Serving) (same : cells_of after ≡ cells_of states)
     (keeps : (p : ℕ) (q : List ℕ) → (p < c.shape.nodes → IsPending stage.Serving c q → ⊥) → IsAtRest ((states p).file q) → IsAtRest ((after p).file q)) where
   -- a run that serves goes on from what a refused call left
   pub still_leads : Leads first c programs states events → Leads first c programs after events
   still_leads leads =
       let h = led first c programs states events (ap is_up at) leads in
-      let quiet : (p : ℕ) (q : List ℕ) → p ≤ 32 → (p < c.shape.nodes → IsPending stage.Serving c q → ⊥) → IsAtRest ((states p).file q) = subst (λ (s : Stage). (p : ℕ) (q : List ℕ) → p ≤ 32 → (p < c.shape.nodes → IsPending s c q → ⊥) → IsAtRest ((states p).file q)) at h.quiet in
+      let quiet : (p : ℕ) (q : List ℕ) → p ≤ 32 → (p < c.shape.nodes → IsPending stage.Serving c q → ⊥) → IsAtRest ((states p).file q) = subst (λ (s : RunStage). (p : ℕ) (q : List ℕ) → p ≤ 32 → (p < c.shape.nodes → IsPending s c q → ⊥) → IsAtRest ((states p).file q)) at h.quiet in
       let calm : (p : ℕ) (q : List ℕ) → p ≤ 32 → (p < c.shape.nodes → IsPending stage.Serving c q → ⊥) → IsAtRest ((after p).file q) = (λ p q low away. keeps p q away (quiet p q low away)) in
       leads_up first c programs after events (ap is_up at) (record {
         run = subst (λ (cells : Cells). RunsTo (setup_of c) first events (running (contents_of cells c) c)) (sym same) h.run;
         so_far = h.so_far;
         well = h.well;
         files = subst (λ (cells : Cells). FilesHold c cells) (sym same) h.files;
-        quiet = subst (λ (s : Stage). (p : ℕ) (q : List ℕ) → p ≤ 32 → (p < c.shape.nodes → IsPending s c q → ⊥) → IsAtRest ((after p).file q)) (sym at) calm;
+        quiet = subst (λ (s : RunStage). (p : ℕ) (q : List ℕ) → p ≤ 32 → (p < c.shape.nodes → IsPending s c q → ⊥) → IsAtRest ((after p).file q)) (sym at) calm;
         unrecorded = subst (λ (cells : Cells). NoRecordYet c.stage c cells) (sym same) h.unrecorded;
         working = work;
       }) where
         work : WorkIs c.stage c after
-        work = subst (λ (s : Stage). WorkIs s c after) (sym at) (at_work first c programs states events at leads)
+        work = subst (λ (s : RunStage). WorkIs s c after) (sym at) (at_work first c programs states events at leads)
 
   pub refused_told : (events' : List Event) (rank : ℕ) (seat : Seat) (call : Step) (r : Refusal) → IsNextLocal programs c rank call → local_verdict_of c rank call ≡ None → is_fault (reply.Refused r) ≡ true → may_fault_local call (reply.Refused r) ≡ true
       → slice_get c.ranks rank ≡ Some seat → events' ≡ events ++ event.Local rank (seat.number + 1) call (reply.Refused r) ∷ [] → Leads first c programs states events

@@ -21,24 +21,26 @@ use Rattle.ckpt_model.specs.declared.event.Event.{Event}
 use Rattle.ckpt_model.specs.Answers.{is_fault}
 use Rattle.ckpt_model.specs.Machine.{Machine, Kept}
 use Rattle.ckpt_model.specs.Runs.{RunsTo}
-use Rattle.site_core.specs.declared.cache.Cached.{Cached}
-use Rattle.site_core.specs.declared.cache.Manifest.{Manifest}
-use Rattle.site_core.specs.declared.core_state.Core.{Core}
-use Rattle.site_core.specs.declared.core_state.Drop.{Drop}
-use Rattle.site_core.specs.declared.core_state.Drop.TheVariants as drop
-use Rattle.site_core.specs.declared.core_state.Stage.{Stage}
-use Rattle.site_core.specs.declared.core_state.Stage.TheVariants as stage
-use Rattle.site_core.specs.declared.core_state.Work.{Work}
-use Rattle.site_core.specs.declared.core_state.Work.TheVariants as work
-use Rattle.site_core.specs.Calls.{Unrecorded, KeptAlike, Synced, FileDropped, Tells}
-use Rattle.site_core.specs.Choosing.{seals, is_being_sealed}
-use Rattle.site_core.specs.Cores.{dropping_core, next_drop_core}
-use Rattle.site_core.specs.Removals.{Leaving, leaving}
-use Rattle.site_core.specs.Shown.{running, setup_of, set_of, mends}
+use Rattle.site_state.specs.declared.cache.Cached.{Cached}
+use Rattle.site_state.specs.declared.cache.Manifest.{Manifest}
+use Rattle.site_state.specs.declared.run_state.RunState.{RunState}
+use Rattle.site_state.specs.declared.run_state.DropStep.{DropStep}
+use Rattle.site_state.specs.declared.run_state.DropStep.TheVariants as drop
+use Rattle.site_state.specs.declared.run_state.RunStage.{RunStage}
+use Rattle.site_state.specs.declared.run_state.RunStage.TheVariants as stage
+use Rattle.site_state.specs.declared.run_state.SaveStep.{SaveStep}
+use Rattle.site_state.specs.declared.run_state.SaveStep.TheVariants as work
+use Rattle.site_calls.specs.Calls.{Unrecorded, KeptAlike, Synced, FileDropped, Tells}
+use Rattle.site_state.specs.Choosing.{seals, is_being_sealed}
+use Rattle.site_state.specs.Cores.{dropping_core, next_drop_core}
+use Rattle.site_calls.specs.Removals.{Leaving, leaving}
+use Rattle.site_state.specs.Shown.{running, setup_of, set_of, mends}
 use Rattle.site_core.specs.Stored.{Cells, cells_of, contents_of, IsAmong, IsKnown, IsWell, FilesHold, IsUnindexed}
-use Rattle.site_core.specs.Holds.{HoldsAt, ToldAt, ClosesAt, Leads, IsSoFar, IsPending, NoRecordYet, WorkIs, IsSaving, IsSaved, IsDropRound, IsDropCause, IsDropFor, IsOfDataset, IsLeavingAt, IsDropping, IsDropped, RemovalIs, is_gone_at}
+use Rattle.site_core.specs.Holds.{HoldsAt, ToldAt, ClosesAt, Leads, IsSoFar, IsPending, NoRecordYet, WorkIs, IsSaving, IsSaved, IsOfDataset, IsLeavingAt, IsDropping, IsDropped, RemovalIs, is_gone_at}
+use Rattle.site_state.specs.Asked.{IsDropRound, IsDropCause, IsDropFor}
 use Rattle.site_core.proofs.Told.{is_up, led}
-use Rattle.site_core.proofs.Puts.{few_nodes, kept_other}
+use Rattle.site_state.proofs.Shapes.{few_nodes}
+use Rattle.site_core.proofs.Puts.{kept_other}
 use Rattle.site_core.proofs.Refusals.{cells_alike, refused_rest, alike_rest}
 use Rattle.site_core.specs.Left.{NoneSealed}
 use Rattle.site_core.specs.Holds.{RecordAt}
@@ -54,13 +56,13 @@ use Rattle.site_core.proofs.Losses.{Loses, loses, others_rest, kept_stand, recor
 
 -- ## A core at another stage of the removal
 
-abbrev pub going : Core → Stage → Leaving → Core
+abbrev pub going : RunState → RunStage → Leaving → RunState
 going c s r = record c { stage = s; removal = r }
 
-going_well : (c : Core) (s : Stage) (r : Leaving) → IsWell c → IsWell (going c s r)
+going_well : (c : RunState) (s : RunStage) (r : Leaving) → IsWell c → IsWell (going c s r)
 going_well c s r w = record { single = w.single; places = w.places; rise = w.rise; below = w.below; sets = w.sets; opened_run = w.opened_run; opened_below = w.opened_below; opened_last = w.opened_last; output = w.output; ranks = w.ranks }
 
-going_for : (c : Core) (s : Stage) (r : Leaving) → IsDropFor c → IsDropFor (going c s r)
+going_for : (c : RunState) (s : RunStage) (r : Leaving) → IsDropFor c → IsDropFor (going c s r)
 going_for c s r d = record { complete = d.complete; valid = d.valid; first = d.first; clear = d.clear; why = d.why }
 
 not_both : {X : Type 0} (b : Bool) → b ≡ true → b ≡ false → X
@@ -76,16 +78,16 @@ some_same : {X : Type 0} (x y : X) → Some x ≡ Some y → x ≡ y
 some_same x y e = cc
 
 -- a run whose open dataset is on its way out has told the events of a run so far
-pub dropping_at : (first : Machine) (c : Core) (programs : List (List Step)) (states : ℕ → DeviceState) (events : List Event) (d : Drop) (n : ℕ) → c.stage ≡ stage.Dropping d n → (leads : Leads first c programs states events) → IsDropping d n c states leads.state × IsSoFar c.places programs events
+pub dropping_at : (first : Machine) (c : RunState) (programs : List (List Step)) (states : ℕ → DeviceState) (events : List Event) (d : DropStep) (n : ℕ) → c.stage ≡ stage.Dropping d n → (leads : Leads first c programs states events) → IsDropping d n c states leads.state × IsSoFar c.places programs events
 dropping_at first c programs states events d n at leads = (
-  subst (λ (s : Stage). HoldsAt s c states leads.state) at leads.holds,
-  subst (λ (s : Stage). ToldAt s c.places programs events) at leads.told,
+  subst (λ (s : RunStage). HoldsAt s c states leads.state) at leads.holds,
+  subst (λ (s : RunStage). ToldAt s c.places programs events) at leads.told,
 )
 
-pub dropped_at : (first : Machine) (c : Core) (programs : List (List Step)) (states : ℕ → DeviceState) (events : List Event) → c.stage ≡ stage.Dropped → (leads : Leads first c programs states events) → IsDropped c states leads.state × IsSoFar c.places programs events
+pub dropped_at : (first : Machine) (c : RunState) (programs : List (List Step)) (states : ℕ → DeviceState) (events : List Event) → c.stage ≡ stage.Dropped → (leads : Leads first c programs states events) → IsDropped c states leads.state × IsSoFar c.places programs events
 dropped_at first c programs states events at leads = (
-  subst (λ (s : Stage). HoldsAt s c states leads.state) at leads.holds,
-  subst (λ (s : Stage). ToldAt s c.places programs events) at leads.told,
+  subst (λ (s : RunStage). HoldsAt s c states leads.state) at leads.holds,
+  subst (λ (s : RunStage). ToldAt s c.places programs events) at leads.told,
 )
 
 -- ## The beginning
@@ -94,12 +96,12 @@ some_nodes : (shape : Shape) → 0 < shape.nodes
 some_nodes shape = grind (arith, nat_tests, shape.limits)
 
 -- what holds of the files before the first is removed
-record IsWhole (c : Core) (m : Manifest) (refusal : Option Refusal) (states : ℕ → DeviceState) : Type 0 where
+record IsWhole (c : RunState) (m : Manifest) (refusal : Option Refusal) (states : ℕ → DeviceState) : Type 0 where
   pub opened : c.opened ≡ Some m
   pub complete : Rattle.round_core.specs.Seats.is_complete c.ranks ≡ true
   pub valid : Bool
   pub first : Rattle.round_core.specs.Seats.first_call c.ranks ≡ Some (step.Complete valid)
-  pub clear : Rattle.site_core.specs.Choosing.verdict_of c (step.Complete valid) ≡ None
+  pub clear : Rattle.site_state.specs.Choosing.verdict_of c (step.Complete valid) ≡ None
   pub why : IsDropCause c refusal
   pub well : IsWell c
   pub files : FilesHold c (cells_of states)
@@ -108,7 +110,7 @@ record IsWhole (c : Core) (m : Manifest) (refusal : Option Refusal) (states : �
   pub unsealed : NoneSealed m.desc.which states
   pub quiet : (p : ℕ) (q : List ℕ) → p ≤ 32 → (p < c.shape.nodes → IsOfDataset m.desc.which q → ⊥) → IsAtRest ((states p).file q)
 
-begins_by : (first : Machine) (c : Core) (programs : List (List Step)) (states : ℕ → DeviceState) (events : List Event) (m : Manifest) (which : DataId) (refusal : Option Refusal) → which ≡ m.desc.which → IsWhole c m refusal states
+begins_by : (first : Machine) (c : RunState) (programs : List (List Step)) (states : ℕ → DeviceState) (events : List Event) (m : Manifest) (which : DataId) (refusal : Option Refusal) → which ≡ m.desc.which → IsWhole c m refusal states
     → RunsTo (setup_of c) first events (running (contents_of (cells_of states) c) c) → IsSoFar c.places programs events → Leads first (dropping_core c which refusal) programs states events
 begins_by first c programs states events m which refusal is h run so_far =
     let bytes = contents_of (cells_of states) c in
@@ -147,13 +149,13 @@ begins_by first c programs states events m which refusal is h run so_far =
     }
 
 -- the ranks ask for the removal
-pub dropping_begins : (first : Machine) (c : Core) (programs : List (List Step)) (states : ℕ → DeviceState) (events : List Event) (which : DataId) → c.stage ≡ stage.Serving → IsDropRound c which → Leads first c programs states events
+pub dropping_begins : (first : Machine) (c : RunState) (programs : List (List Step)) (states : ℕ → DeviceState) (events : List Event) (which : DataId) → c.stage ≡ stage.Serving → IsDropRound c which → Leads first c programs states events
     → Leads first (dropping_core c which None) programs states events
 dropping_begins first c programs states events which at round leads =
     let h = led first c programs states events (ap is_up at) leads in
-    let working : WorkIs stage.Serving c states = subst (λ (s : Stage). WorkIs s c states) at h.working in
-    let quiet = subst (λ (s : Stage). (p : ℕ) (q : List ℕ) → p ≤ 32 → (p < c.shape.nodes → IsPending s c q → ⊥) → IsAtRest ((states p).file q)) at h.quiet in
-    let none : NoRecordYet stage.Serving c (cells_of states) = subst (λ (s : Stage). NoRecordYet s c (cells_of states)) at h.unrecorded in
+    let working : WorkIs stage.Serving c states = subst (λ (s : RunStage). WorkIs s c states) at h.working in
+    let quiet = subst (λ (s : RunStage). (p : ℕ) (q : List ℕ) → p ≤ 32 → (p < c.shape.nodes → IsPending s c q → ⊥) → IsAtRest ((states p).file q)) at h.quiet in
+    let none : NoRecordYet stage.Serving c (cells_of states) = subst (λ (s : RunStage). NoRecordYet s c (cells_of states)) at h.unrecorded in
     begins_by first c programs states events round.set which None round.which_is (record {
       opened = round.opened;
       complete = round.complete;
@@ -181,11 +183,11 @@ dropping_begins first c programs states events which at round leads =
 
 -- ## A device refuses the round while records are written
 
-is_open_one : (w : Work) (n : ℕ) (c : Core) (m x : Manifest) → c.opened ≡ Some m → IsSaved w n c x → x ≡ m
+is_open_one : (w : SaveStep) (n : ℕ) (c : RunState) (m x : Manifest) → c.opened ≡ Some m → IsSaved w n c x → x ≡ m
 is_open_one w n c m x opened (inl is) = some_same x m (sym is ∙ opened)
 is_open_one w n c m x opened (inr s) = absurd (cc (opened, s.0))
 
-carried : (first : Machine) (c : Core) (programs : List (List Step)) (states after : ℕ → DeviceState) (events : List Event) (w : Work) (n : ℕ) (m : Manifest) (refusal : Refusal) → c.opened ≡ Some m → is_fault (reply.Refused refusal) ≡ true
+carried : (first : Machine) (c : RunState) (programs : List (List Step)) (states after : ℕ → DeviceState) (events : List Event) (w : SaveStep) (n : ℕ) (m : Manifest) (refusal : Refusal) → c.opened ≡ Some m → is_fault (reply.Refused refusal) ≡ true
     → IsSaving first c programs states events w n m → cells_of after ≡ cells_of states → ((p : ℕ) (q : List ℕ) → (p ≡ n → q ≢ record_name m.desc.which n) → IsAtRest ((states p).file q) → IsAtRest ((after p).file q))
     → NoneSealed m.desc.which after → Leads first (dropping_core c m.desc.which (Some refusal)) programs after events
 carried first c programs states after events w n m refusal opened fault h same rest none =
@@ -215,7 +217,7 @@ carried first c programs states after events w n m refusal opened fault h same r
           let one : x ≡ m = is_open_one w n c m x opened saved in
           (is.0, is.1, inl (is.2 ∙ ap (λ (y : Manifest). record_name y.desc.which is.0) one))
 
-module _ (first : Machine) (c : Core) (programs : List (List Step)) (states after : ℕ → DeviceState) (events : List Event) (n : ℕ) (m : Manifest) (place : ℕ) (home : slice_get c.places n ≡ Some place) (refusal : Refusal) (opened : c.opened ≡ Some m) (fault : is_fault (reply.Refused refusal) ≡ true) where
+module _ (first : Machine) (c : RunState) (programs : List (List Step)) (states after : ℕ → DeviceState) (events : List Event) (n : ℕ) (m : Manifest) (place : ℕ) (home : slice_get c.places n ≡ Some place) (refusal : Refusal) (opened : c.opened ≡ Some m) (fault : is_fault (reply.Refused refusal) ≡ true) where
   -- a record's write was refused
   pub carried_write : IsSaving first c programs states events work.Record n m → OnlyAt place (Unrecorded (record_name m.desc.which n)) states after → Leads first (dropping_core c m.desc.which (Some refusal)) programs after events
   carried_write h done =
@@ -252,7 +254,7 @@ no_record f told none = pick f.now refl where
   pick None e = e
   pick (Some bytes) e = absurd (cc (sym none ∙ told ∙ ap (λ (o : Option (List ℕ)). option_map length o) e))
 
-module _ (c : Core) (states after : ℕ → DeviceState) (m : Machine) (gone settled : ℕ → Bool) (h : IsLeavingAt gone settled c states m) (n : ℕ) (lt : n < c.shape.nodes) (unsettled : settled n ≡ false)
+module _ (c : RunState) (states after : ℕ → DeviceState) (m : Machine) (gone settled : ℕ → Bool) (h : IsLeavingAt gone settled c states m) (n : ℕ) (lt : n < c.shape.nodes) (unsettled : settled n ≡ false)
     (done : OnlyAt n (RemovesAtMost h.set.desc.which n) states after) (sound : (p : ℕ) → IsSound (states p)) where
   small : n < 2 ^ 8
   small = omega (arith, lt, few_nodes c.shape)
@@ -263,7 +265,7 @@ module _ (c : Core) (states after : ℕ → DeviceState) (m : Machine) (gone set
   pub loss : Loses h.set.desc.which n n (cells_of states) (cells_of after)
   loss = loses h.set.desc.which n n states after done
 
-  pub leaves_on : (s : Stage) (r : Leaving) (gone_then : ℕ → Bool) → ((node p : ℕ) → slice_get c.places node ≡ Some p → gone_then node ≡ true → cells_of after p (record_name h.set.desc.which node) ≡ None) → IsLeavingAt gone_then settled (going c s r) after m
+  pub leaves_on : (s : RunStage) (r : Leaving) (gone_then : ℕ → Bool) → ((node p : ℕ) → slice_get c.places node ≡ Some p → gone_then node ≡ true → cells_of after p (record_name h.set.desc.which node) ≡ None) → IsLeavingAt gone_then settled (going c s r) after m
   leaves_on s r gone_then removed = record {
     set = h.set;
     opened = h.opened;
@@ -285,7 +287,7 @@ module _ (c : Core) (states after : ℕ → DeviceState) (m : Machine) (gone set
     quiet = λ p q low calm. others_rest h.set.desc.which n n states after done p q (λ is of. calm (omega (arith, is, lt)) (ap settled is ∙ unsettled) (n, small, of)) (h.quiet p q low calm);
   }
 
-module _ (first : Machine) (c : Core) (programs : List (List Step)) (states after : ℕ → DeviceState) (events : List Event) (n place : ℕ) (at : c.stage ≡ stage.Dropping drop.File n) (home : slice_get c.places n ≡ Some place) (leads : Leads first c programs states events)
+module _ (first : Machine) (c : RunState) (programs : List (List Step)) (states after : ℕ → DeviceState) (events : List Event) (n place : ℕ) (at : c.stage ≡ stage.Dropping drop.File n) (home : slice_get c.places n ≡ Some place) (leads : Leads first c programs states events)
     (r : Leaving) (which_is : r.which ≡ c.removal.which) (node_is : r.node ≡ c.removal.node) (over : Bool) (done : OnlyAt place (FileDropped c.removal.which c.removal.node over c.removal.changes r.changes) states after) (steady : (p : ℕ) → IsSound (states p)) where
   abbrev dropping : IsDropping drop.File n c states leads.state
   dropping = (dropping_at first c programs states events drop.File n at leads).0
@@ -311,7 +313,7 @@ module _ (first : Machine) (c : Core) (programs : List (List Step)) (states afte
   pub file_dropped : Leads first (record c { removal = r }) programs after events
   unfolding leaves_on dropping_at
   file_dropped =
-      let d : Core = record c { removal = r } in
+      let d : RunState = record c { removal = r } in
       let holds : IsDropping drop.File n d after leads.state = record {
         leaves = leaves_on c states after leads.state (is_gone_at drop.File n) (λ node. nat_lt node n) dropping.leaves n dropping.below (lt-self n) at_most steady c.stage r (is_gone_at drop.File n) gone_still;
         below = dropping.below;
@@ -321,9 +323,9 @@ module _ (first : Machine) (c : Core) (programs : List (List Step)) (states afte
       record {
         state = leads.state;
         run = leads.run;
-        holds = subst (λ (s : Stage). HoldsAt s d after leads.state) (sym at) holds;
+        holds = subst (λ (s : RunStage). HoldsAt s d after leads.state) (sym at) holds;
         told = leads.told;
-        closes = subst (λ (s : Stage). ClosesAt s (setup_of c) first c.places programs after events) (sym at) tt;
+        closes = subst (λ (s : RunStage). ClosesAt s (setup_of c) first c.places programs after events) (sym at) tt;
       }
 
   -- it was the last
@@ -357,8 +359,8 @@ module _ (first : Machine) (c : Core) (programs : List (List Step)) (states afte
 
 -- ## What went is stable
 
-module _ (c : Core) (states after : ℕ → DeviceState) (m : Machine) (gone settled : ℕ → Bool) (h : IsLeavingAt gone settled c states m) (n : ℕ) (done : OnlyAt n Synced states after) where
-  leaves_synced : (s : Stage) (r : Leaving) (gone_then stable : ℕ → Bool) → ((node : ℕ) → node < c.shape.nodes → gone_then node ≡ true → gone node ≡ true) → ((p : ℕ) → p < c.shape.nodes → p ≢ n → settled p ≡ false → stable p ≡ false)
+module _ (c : RunState) (states after : ℕ → DeviceState) (m : Machine) (gone settled : ℕ → Bool) (h : IsLeavingAt gone settled c states m) (n : ℕ) (done : OnlyAt n Synced states after) where
+  leaves_synced : (s : RunStage) (r : Leaving) (gone_then stable : ℕ → Bool) → ((node : ℕ) → node < c.shape.nodes → gone_then node ≡ true → gone node ≡ true) → ((p : ℕ) → p < c.shape.nodes → p ≢ n → settled p ≡ false → stable p ≡ false)
       → IsLeavingAt gone_then stable (going c s r) after m
   leaves_synced s r gone_then stable went settles =
       let same = alike_cells n states after done in
@@ -405,7 +407,7 @@ next_or_last : (n nodes : ℕ) (b : Bool) → nat_lt n (nodes - 1) ≡ b → n <
 next_or_last n nodes true e lt = inl (refl, grind (arith, nat_tests, e, lt))
 next_or_last n nodes false e lt = inr (refl, grind (arith, nat_tests, e, lt))
 
-module _ (first : Machine) (c : Core) (programs : List (List Step)) (states after : ℕ → DeviceState) (events : List Event) (n place : ℕ) (at : c.stage ≡ stage.Dropping drop.Sync n) (home : slice_get c.places n ≡ Some place) (leads : Leads first c programs states events) (done : OnlyAt place Synced states after) where
+module _ (first : Machine) (c : RunState) (programs : List (List Step)) (states after : ℕ → DeviceState) (events : List Event) (n place : ℕ) (at : c.stage ≡ stage.Dropping drop.Sync n) (home : slice_get c.places n ≡ Some place) (leads : Leads first c programs states events) (done : OnlyAt place Synced states after) where
   abbrev syncing : IsDropping drop.Sync n c states leads.state
   syncing = (dropping_at first c programs states events drop.Sync n at leads).0
 

@@ -1,5 +1,5 @@
 -- A run begins over devices that let it, and devices that let it do so after a stop.
-use Rattle.std.proofs.Common.{◌≡◌, inl, inr, ℕ, ◌+◌, ◌*◌, ◌<◌, ◌≤◌, true, List, [], map, replicate, Option, refl, sym, ap, ap₂, ◌∙◌, subst, arith, codes}
+use Rattle.std.proofs.Common.{◌≡◌, ℕ, ◌+◌, ◌*◌, ◌<◌, ◌≤◌, true, List, [], map, replicate, Option, refl, sym, ap, ap₂, ◌∙◌, subst, arith, codes}
 use Rattle.std.proofs.Math.Path.{fun_ext}
 use Rattle.scr_base.specs.Sets.{numbers_below}
 use Rattle.scr_base.specs.declared.shape.Shape.{Shape}
@@ -14,16 +14,17 @@ use Rattle.ckpt_model.specs.Machine.{Machine, Setup}
 use Rattle.ckpt_model.specs.Runs.{RunsTo}
 use Rattle.round_core.specs.Seats.{fresh_seat}
 use Rattle.site_stands.specs.Described.{is_single}
-use Rattle.site_core.specs.declared.core_state.Core.{Core}
-use Rattle.site_core.specs.declared.core_state.Stage.{Stage}
-use Rattle.site_core.specs.Cores.{IsNewCore}
-use Rattle.site_core.specs.Shown.{Contents, setup_of, kept_of}
-use Rattle.site_core.specs.Stored.{cells_of, run_number}
+use Rattle.site_state.specs.declared.run_state.RunState.{RunState}
+use Rattle.site_state.specs.declared.run_state.RunStage.{RunStage}
+use Rattle.site_state.specs.Cores.{IsNewCore}
+use Rattle.site_state.specs.Shown.{Contents, setup_of, kept_of}
+use Rattle.site_calls.specs.Numbers.{run_number}
+use Rattle.site_core.specs.Stored.{cells_of}
 use Rattle.site_core.specs.Holds.{HoldsAt, ToldAt, ClosesAt, Leads, CanBegin, IsOneOf, settled_set, IsBegun}
 use Rattle.site_core.proofs.Halts.{halt_same, unindexed_same}
 use Rattle.site_core.proofs.Stored.{others_after, future_after, contents_after, files_after, records_after}
 
-pub begun_leads : (first : Machine) (shape : Shape) (config : Config) (c : Core) (programs : List (List Step)) (states : ℕ → DeviceState) (events : List Event) → IsNewCore shape config c → events ≡ []
+pub begun_leads : (first : Machine) (shape : Shape) (config : Config) (c : RunState) (programs : List (List Step)) (states : ℕ → DeviceState) (events : List Event) → IsNewCore shape config c → events ≡ []
     → CanBegin (record { shape = shape; config = config }) states first → Leads first c programs states events
 begun_leads first shape config c programs states events new none begins =
     let same : setup_of c ≡ record { shape = shape; config = config } = ap₂ (λ (s : Shape) (f : Config). let x : Setup = record { shape = s; config = f } in x) new.shape_is new.config_is in
@@ -44,9 +45,9 @@ begun_leads first shape config c programs states events new none begins =
     record {
       state = first;
       run = subst (λ (es : List Event). RunsTo (setup_of c) first es first) (sym none) refl;
-      holds = subst (λ (s : Stage). HoldsAt s c states first) (sym new.stage_is) begun;
-      told = subst (λ (s : Stage). ToldAt s c.places programs events) (sym new.stage_is) none;
-      closes = subst (λ (s : Stage). ClosesAt s (setup_of c) first c.places programs states events) (sym new.stage_is) tt;
+      holds = subst (λ (s : RunStage). HoldsAt s c states first) (sym new.stage_is) begun;
+      told = subst (λ (s : RunStage). ToldAt s c.places programs events) (sym new.stage_is) none;
+      closes = subst (λ (s : RunStage). ClosesAt s (setup_of c) first c.places programs states events) (sym new.stage_is) tt;
     }
 
 module _ (s : Setup) (states after : ℕ → DeviceState) (m : Machine) (crash : (p : ℕ) → p ≤ 32 → Crashes (states p) (after p)) (tells : (p : ℕ) → p ≤ 32 → (after p).tells ≡ true) where

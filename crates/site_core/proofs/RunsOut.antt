@@ -11,11 +11,11 @@ use Rattle.ckpt_model.specs.Legal.{begins_run, AreOfPrograms, is_stop}
 use Rattle.ckpt_model.specs.Machine.{Machine, Setup, Stage as Place}
 use Rattle.ckpt_model.specs.Stops.{may_stop, may_store, after_stop}
 use Rattle.model_proper.specs.Fair.{IsFair}
-use Rattle.site_core.specs.declared.core_state.Core.{Core}
-use Rattle.site_core.specs.declared.core_state.Stage.TheVariants as stage
-use Rattle.site_core.specs.Shown.{setup_of}
+use Rattle.site_state.specs.declared.run_state.RunState.{RunState}
+use Rattle.site_state.specs.declared.run_state.RunStage.TheVariants as stage
+use Rattle.site_state.specs.Shown.{setup_of}
 use Rattle.site_core.specs.Stored.{cells_of, stored_run}
-use Rattle.site_core.specs.Waiting.{is_over}
+use Rattle.site_state.specs.Waiting.{is_over}
 use Rattle.site_core.specs.Holds.{Leads, CanBegin}
 use Rattle.site_core.proofs.Numbering.{begun_at, told_begun}
 use Rattle.site_core.proofs.LeftStages.{remains, stage_left}
@@ -39,7 +39,7 @@ may_run_out m at is = rw (at, is) refl
 can_begin : (s : Setup) (states : ℕ → DeviceState) (m : Machine) → CanBegin s states m → CanBegin s states (unnumbered m)
 can_begin s states m h = record { single = h.single; sets = h.sets; quiet = h.quiet; store = h.store; between = refl; kept = h.kept; index = refl; halt = h.halt; mark_is = h.mark_is; unindexed = h.unindexed }
 
-pub numbers_over : (first : Machine) (c : Core) (programs : List (List Step)) (states : ℕ → DeviceState) (events events' : List Event) → IsLawful states → IsFair (setup_of c) first → c.stage ≡ stage.Begun → stored_run (cells_of states) ≡ 4294967295
+pub numbers_over : (first : Machine) (c : RunState) (programs : List (List Step)) (states : ℕ → DeviceState) (events events' : List Event) → IsLawful states → IsFair (setup_of c) first → c.stage ≡ stage.Begun → stored_run (cells_of states) ≡ 4294967295
     → events' ≡ events ++ event.Stop cause.Runs ∷ [] → Leads first c programs states events → Leads first (over_core c) programs states events'
 numbers_over first c programs states events events' law fair at last more leads =
     let m = leads.state in

@@ -21,29 +21,31 @@ use Rattle.ckpt_model.specs.declared.event.Event.TheVariants as event
 use Rattle.ckpt_model.specs.Machine.{Machine}
 use Rattle.ckpt_model.proofs.RunLemmas.{run_on}
 use Rattle.ckpt_model.proofs.SameLemmas.{id-same}
-use Rattle.site_core.specs.declared.cache.Cached.{Cached}
-use Rattle.site_core.specs.declared.cache.Manifest.{Manifest}
-use Rattle.site_core.specs.Cores.{sealed_core, sealing_one, settled_core}
-use Rattle.site_core.specs.declared.cache.Mark.TheVariants as mark
-use Rattle.site_core.specs.declared.core_state.Core.{Core}
-use Rattle.site_core.specs.declared.core_state.Stage.{Stage}
-use Rattle.site_core.specs.declared.core_state.Stage.TheVariants as stage
-use Rattle.site_core.specs.declared.core_state.Work.{Work}
-use Rattle.site_core.specs.declared.core_state.Work.TheVariants as work
-use Rattle.site_core.specs.Shown.{running, setup_of, mends, come_to, settled_if}
-use Rattle.site_core.specs.Choosing.{is_being_sealed, seals, AscendFrom, AreBelow}
-use Rattle.site_core.specs.Calls.{Synced}
+use Rattle.site_state.specs.declared.cache.Cached.{Cached}
+use Rattle.site_state.specs.declared.cache.Manifest.{Manifest}
+use Rattle.site_state.specs.Cores.{sealed_core, sealing_one, settled_core}
+use Rattle.site_state.specs.declared.cache.Mark.TheVariants as mark
+use Rattle.site_state.specs.declared.run_state.RunState.{RunState}
+use Rattle.site_state.specs.declared.run_state.RunStage.{RunStage}
+use Rattle.site_state.specs.declared.run_state.RunStage.TheVariants as stage
+use Rattle.site_state.specs.declared.run_state.SaveStep.{SaveStep}
+use Rattle.site_state.specs.declared.run_state.SaveStep.TheVariants as work
+use Rattle.site_state.specs.Shown.{running, setup_of, mends, come_to, settled_if}
+use Rattle.site_state.specs.Choosing.{is_being_sealed, seals, AscendFrom, AreBelow}
+use Rattle.site_calls.specs.Calls.{Synced}
 use Rattle.site_core.specs.Stored.{Cells, cells_of, contents_of, RecordIs, RecordsStand, IsKnown, IsWell, FilesHold}
 use Rattle.site_core.specs.Left.{is_sealing_work}
-use Rattle.site_core.specs.Holds.{Leads, IsSaved, IsSaveRound, RecordAt, IsPending, IsFileOf, WorkIs, NoRecordYet}
+use Rattle.site_core.specs.Holds.{Leads, IsSaved, RecordAt, IsPending, IsFileOf, WorkIs, NoRecordYet}
+use Rattle.site_state.specs.Asked.{IsSaveRound}
 use Rattle.site_core.proofs.Told.{is_up, led, leads_up, tells_more}
 use Rattle.site_core.proofs.Frames.{is_place, file_no_record}
-use Rattle.site_core.proofs.Puts.{few_nodes, kept_other}
+use Rattle.site_state.proofs.Shapes.{few_nodes}
+use Rattle.site_core.proofs.Puts.{kept_other}
 use Rattle.site_core.proofs.RecordFiles.{alike_cells, synced_rest, node_small}
 use Rattle.site_core.proofs.Saving.{place_of_node}
 use Rattle.site_core.proofs.LeftFiles.{none_shut}
 use Rattle.site_core.specs.Holds.{IsSaving}
-use Rattle.site_core.proofs.Seals.{sealing, settles}
+use Rattle.site_state.proofs.Seals.{sealing, settles}
 
 some_same : {X : Type 0} (x y : X) → Some x ≡ Some y → x ≡ y
 some_same x y e = cc
@@ -69,13 +71,13 @@ one-passes test (y ∷ ys) (suc i) x at e = or-true (test y) _ (one-passes test 
 
 -- ## The beginning
 
-pub begins_saving : (first : Machine) (c : Core) (programs : List (List Step)) (states : ℕ → DeviceState) (events : List Event) (m : Manifest) → c.stage ≡ stage.Serving → Leads first c programs states events → c.opened ≡ Some m → IsSaveRound c
+pub begins_saving : (first : Machine) (c : RunState) (programs : List (List Step)) (states : ℕ → DeviceState) (events : List Event) (m : Manifest) → c.stage ≡ stage.Serving → Leads first c programs states events → c.opened ≡ Some m → IsSaveRound c
     → 0 < c.shape.nodes → IsSaving first c programs states events work.Record 0 m
 begins_saving first c programs states events m at leads opened round some =
     let h = led first c programs states events (ap is_up at) leads in
-    let working : WorkIs stage.Serving c states = subst (λ (s : Stage). WorkIs s c states) at h.working in
-    let none : NoRecordYet stage.Serving c (cells_of states) = subst (λ (s : Stage). NoRecordYet s c (cells_of states)) at h.unrecorded in
-    let quiet = subst (λ (s : Stage). (p : ℕ) (q : List ℕ) → p ≤ 32 → (p < c.shape.nodes → IsPending s c q → ⊥) → IsAtRest ((states p).file q)) at h.quiet in
+    let working : WorkIs stage.Serving c states = subst (λ (s : RunStage). WorkIs s c states) at h.working in
+    let none : NoRecordYet stage.Serving c (cells_of states) = subst (λ (s : RunStage). NoRecordYet s c (cells_of states)) at h.unrecorded in
+    let quiet = subst (λ (s : RunStage). (p : ℕ) (q : List ℕ) → p ≤ 32 → (p < c.shape.nodes → IsPending s c q → ⊥) → IsAtRest ((states p).file q)) at h.quiet in
     record {
       run = h.run;
       so_far = h.so_far;
@@ -157,7 +159,7 @@ any-push test (y ∷ ys) x e f =
 id_some : (d : Desc) → 1 ≤ d.which.id
 id_some d = grind (arith, nat_tests, d.ranges)
 
-pub seal_told : (first : Machine) (c : Core) (programs : List (List Step)) (states : ℕ → DeviceState) (events events' : List Event) (w : Work) (n : ℕ) (m : Manifest) → IsSaving first c programs states events w n m → is_sealing_work w ≡ true → c.opened ≡ Some m
+pub seal_told : (first : Machine) (c : RunState) (programs : List (List Step)) (states : ℕ → DeviceState) (events events' : List Event) (w : SaveStep) (n : ℕ) (m : Manifest) → IsSaving first c programs states events w n m → is_sealing_work w ≡ true → c.opened ≡ Some m
     → events' ≡ events ++ event.Sealing m.desc.which ∷ [] → IsSaving first (sealed_core c m) programs states events' w n m
 seal_told first c programs states events events' w n m h late opened more =
     let d = sealed_core c m in
@@ -267,21 +269,21 @@ true_or_false : (b : Bool) → (b ≡ true) ⊎ (b ≡ false)
 true_or_false true = inl refl
 true_or_false false = inr refl
 
-pub home_of : (c : Core) (p : ℕ) → IsWell c → p < c.shape.nodes → slice_get c.places p ≡ Some p
+pub home_of : (c : RunState) (p : ℕ) → IsWell c → p < c.shape.nodes → slice_get c.places p ≡ Some p
 home_of c p w lt = subst (λ (ps : List ℕ). slice_get ps p ≡ Some p) (sym w.places)
     (slice_get-get_or (numbers_below c.shape.nodes) p 0 (omega (arith, lt, length-range_with_len 0 c.shape.nodes)) ∙ ap Some (get_or-range_with_len 0 c.shape.nodes p 0 lt ∙ (let e : 0 + p ≡ p = omega arith in e)))
 
-known_settled : (c : Core) (which : DataId) (y : Manifest) → IsKnown (settled_core c which) y → IsKnown c y
+known_settled : (c : RunState) (which : DataId) (y : Manifest) → IsKnown (settled_core c which) y → IsKnown c y
 known_settled c which y (inl e) = inl e
 known_settled c which y (inr among) =
     let x = settled-at which c.kept among.0 among.1 among.2 in
     inr (among.0, x.0, x.1, sym (settled-manifest which x.0) ∙ ap (λ (z : Cached). z.manifest) x.2 ∙ among.3)
 
-settled_known : (c : Core) (which : DataId) (y : Manifest) → IsKnown c y → IsKnown (settled_core c which) y
+settled_known : (c : RunState) (which : DataId) (y : Manifest) → IsKnown c y → IsKnown (settled_core c which) y
 settled_known c which y (inl e) = inl e
 settled_known c which y (inr among) = inr (among.0, settled_if which among.1, settled-there which c.kept among.0 among.1 among.2, settled-manifest which among.1 ∙ among.3)
 
-module _ (first : Machine) (c : Core) (programs : List (List Step)) (states after : ℕ → DeviceState) (events events' : List Event) (n : ℕ) (m : Manifest) (place : ℕ) (home : slice_get c.places n ≡ Some place)
+module _ (first : Machine) (c : RunState) (programs : List (List Step)) (states after : ℕ → DeviceState) (events events' : List Event) (n : ℕ) (m : Manifest) (place : ℕ) (home : slice_get c.places n ≡ Some place)
     (h : IsSaving first c programs states events work.SealedSync n m) (closed : c.opened ≡ None) (last : n + 1 ≡ c.shape.nodes) (done : OnlyAt place Synced states after) where
   sealed_one : (x : Cached) × (i : ℕ) × (slice_get c.kept i ≡ Some x) × (x.manifest ≡ m) × (x.mark ≡ mark.Sealing)
   sealed_one = pick h.saved where

@@ -12,17 +12,17 @@ use Rattle.member_store.specs.Names.{record_name}
 use Rattle.member_store.specs.Members.{member_body}
 use Rattle.ckpt_model.specs.declared.event.Event.{Event}
 use Rattle.ckpt_model.specs.Machine.{Machine}
-use Rattle.site_core.specs.declared.cache.Manifest.{Manifest}
-use Rattle.site_core.specs.declared.core_state.Core.{Core}
-use Rattle.site_core.specs.declared.core_state.Work.TheVariants as work
-use Rattle.site_core.specs.Calls.{Synced, Recorded, Turned, Tells}
+use Rattle.site_state.specs.declared.cache.Manifest.{Manifest}
+use Rattle.site_state.specs.declared.run_state.RunState.{RunState}
+use Rattle.site_state.specs.declared.run_state.SaveStep.TheVariants as work
+use Rattle.site_calls.specs.Calls.{Synced, Recorded, Turned, Tells}
 use Rattle.site_core.specs.Stored.{Cells, cells_of, RecordIs}
 use Rattle.site_core.specs.Holds.{RecordAt}
 use Rattle.site_core.proofs.RecordFiles.{body_stays, opened_gate, other_gate, shut_gate}
 use Rattle.site_core.proofs.Saving.{save_put, save_sync, place_of_node}
 use Rattle.site_core.specs.Holds.{IsSaving}
 use Rattle.site_core.proofs.LeftFiles.{has_byte, turned_whole}
-use Rattle.site_core.proofs.Puts.{few_nodes}
+use Rattle.site_state.proofs.Shapes.{few_nodes}
 
 -- ## Numbers of nodes
 
@@ -87,7 +87,7 @@ no_file_shut f none rest = record { shut = pick; untouched = λ gate lt. rest.un
   pick None may gate lt = λ e. absurd (omega (arith, e))
   pick (Some bytes) may gate lt = λ e. absurd (omega (arith, e, no_byte bytes gate (omega (arith, may.no_longer, short))))
 
-module _ (first : Machine) (c : Core) (programs : List (List Step)) (states after : ℕ → DeviceState) (events : List Event) (n : ℕ) (m : Manifest) (place : ℕ) (home : slice_get c.places n ≡ Some place) where
+module _ (first : Machine) (c : RunState) (programs : List (List Step)) (states after : ℕ → DeviceState) (events : List Event) (n : ℕ) (m : Manifest) (place : ℕ) (home : slice_get c.places n ≡ Some place) where
   low : Rattle.site_core.specs.Stored.IsWell c → place ≤ 32
   low well = let at = place_of_node c n place well home in omega (arith, at.0, at.1, few_nodes c.shape)
 

@@ -14,39 +14,40 @@ use Rattle.member_store.specs.Names.{record_name, IsPlace}
 use Rattle.member_store.specs.Members.{member_body}
 use Rattle.ckpt_model.specs.declared.event.Event.{Event}
 use Rattle.ckpt_model.specs.Machine.{Machine}
-use Rattle.site_core.specs.declared.cache.Manifest.{Manifest}
-use Rattle.site_core.specs.declared.core_state.Core.{Core}
-use Rattle.site_core.specs.declared.core_state.Stage.{Stage}
-use Rattle.site_core.specs.declared.core_state.Stage.TheVariants as stage
-use Rattle.site_core.specs.declared.core_state.Work.{Work}
-use Rattle.site_core.specs.Shown.{Contents, running, setup_of}
-use Rattle.site_core.specs.Calls.{Synced}
+use Rattle.site_state.specs.declared.cache.Manifest.{Manifest}
+use Rattle.site_state.specs.declared.run_state.RunState.{RunState}
+use Rattle.site_state.specs.declared.run_state.RunStage.{RunStage}
+use Rattle.site_state.specs.declared.run_state.RunStage.TheVariants as stage
+use Rattle.site_state.specs.declared.run_state.SaveStep.{SaveStep}
+use Rattle.site_state.specs.Shown.{Contents, running, setup_of}
+use Rattle.site_calls.specs.Calls.{Synced}
 use Rattle.site_core.specs.Stored.{Cells, cells_of, contents_of, IsKnown, IsWell, FilesHold, RecordIs}
 use Rattle.site_core.specs.Left.{LeavesSaved, is_filling_at, is_sealing_work}
 use Rattle.site_core.specs.Holds.{Leads, IsSaving, SavesAt, IsSaved, RecordAt, is_written_at, is_whole_at, is_sealed_at, is_pending_at}
 use Rattle.site_core.proofs.Told.{leads_up}
-use Rattle.site_core.proofs.Puts.{file_changes, rest_stays, few_nodes}
+use Rattle.site_core.proofs.Puts.{file_changes, rest_stays}
+use Rattle.site_state.proofs.Shapes.{few_nodes}
 use Rattle.site_core.proofs.RecordFiles.{record_holds, contents_same, alike_cells, synced_rest, node_small}
 use Rattle.site_core.proofs.Frames.{is_place}
 use Rattle.site_core.proofs.LeftFiles.{gate_opens, sync_partly}
 use Rattle.site_core.proofs.Names.{records-same}
 
 -- each node is at the place of its number
-pub place_of_node : (c : Core) (node p : ℕ) → IsWell c → slice_get c.places node ≡ Some p → (p ≡ node) × (node < c.shape.nodes)
+pub place_of_node : (c : RunState) (node p : ℕ) → IsWell c → slice_get c.places node ≡ Some p → (p ≡ node) × (node < c.shape.nodes)
 place_of_node c node p w home =
     let at : slice_get (numbers_below c.shape.nodes) node ≡ Some p = subst (λ (ps : List ℕ). slice_get ps node ≡ Some p) w.places home in
     let lt : node < c.shape.nodes = omega (arith, slice_get_within (numbers_below c.shape.nodes) node p at, length-range_with_len 0 c.shape.nodes) in
     (sym (get_or_from_slice_get (numbers_below c.shape.nodes) node p 0 at) ∙ get_or-range_with_len 0 c.shape.nodes node 0 lt ∙ (let e : 0 + node ≡ node = omega arith in e), lt)
 
 -- the dataset that is being saved is one that the run knows
-pub saved_known : (w : Work) (n : ℕ) (c : Core) (m : Manifest) → IsSaved w n c m → IsKnown c m
+pub saved_known : (w : SaveStep) (n : ℕ) (c : RunState) (m : Manifest) → IsSaved w n c m → IsKnown c m
 saved_known w n c m (inl opened) = inl opened
 saved_known w n c m (inr s) = inr (s.1.1, s.1.0, s.1.2, s.1.3)
 
 -- ## What the records are after a change
 
 -- how the records of the other nodes are, stays
-pub record StaysElsewhere (w v : Work) (n k : ℕ) (nodes : ℕ) : Type 0 where
+pub record StaysElsewhere (w v : SaveStep) (n k : ℕ) (nodes : ℕ) : Type 0 where
   pub written : (i : ℕ) → i < nodes → i ≢ n → is_written_at v k i ≡ is_written_at w n i
   pub whole : (i : ℕ) → i < nodes → i ≢ n → is_whole_at v k i ≡ is_whole_at w n i
   pub sealed : (i : ℕ) → i < nodes → i ≢ n → is_sealed_at v k i ≡ is_sealed_at w n i
@@ -55,12 +56,12 @@ pub record StaysElsewhere (w v : Work) (n k : ℕ) (nodes : ℕ) : Type 0 where
   pub sealing : is_sealing_work v ≡ is_sealing_work w
 
 -- what a stop leaves of the record that was changed
-pub record LeavesRecord (v : Work) (opened : Option Manifest) (m : Manifest) (f : File) (body : List ℕ) : Type 0 where
+pub record LeavesRecord (v : SaveStep) (opened : Option Manifest) (m : Manifest) (f : File) (body : List ℕ) : Type 0 where
   pub unsealed : opened ≡ Some m → StaysShut f 1
   pub whole : is_sealing_work v ≡ true → StaysWhole f body
 
 -- a record was written, or a gate of it turned, done or refused
-module _ (w v : Work) (n : ℕ) (c : Core) (m : Manifest) (states after : ℕ → DeviceState) (well : IsWell c) (place : ℕ) (home : slice_get c.places n ≡ Some place) (h : LeavesSaved w n c.places c.opened m states)
+module _ (w v : SaveStep) (n : ℕ) (c : RunState) (m : Manifest) (states after : ℕ → DeviceState) (well : IsWell c) (place : ℕ) (home : slice_get c.places n ≡ Some place) (h : LeavesSaved w n c.places c.opened m states)
     (done : OnlyAt place (λ a b. ChangesOnly (record_name m.desc.which n) a b) states after) (fills : (i : ℕ) → is_filling_at v n i ≡ false → is_filling_at w n i ≡ false) (sealing : is_sealing_work v ≡ is_sealing_work w)
     (left : LeavesRecord v c.opened m ((after place).file (record_name m.desc.which n)) (member_body m.desc n m.files)) where
   node_at : (i p : ℕ) → slice_get c.places i ≡ Some p → i ≢ n → after p ≡ states p
@@ -92,7 +93,7 @@ module _ (w v : Work) (n : ℕ) (c : Core) (m : Manifest) (states after : ℕ �
     whole i p at calm (inl same) = subst (λ (j : ℕ). StaysWhole ((after p).file (record_name m.desc.which j)) (member_body m.desc j m.files)) (sym same) (subst (λ (x : ℕ). StaysWhole ((after x).file (record_name m.desc.which n)) (member_body m.desc n m.files)) (sym (here_is i p at same)) (left.whole calm))
     whole i p at calm (inr other) = subst (λ (d : DeviceState). StaysWhole (d.file (record_name m.desc.which i)) (member_body m.desc i m.files)) (sym (node_at i p at other)) (h.whole (sym sealing ∙ calm) i p at)
 
-module _ (w v : Work) (n : ℕ) (c : Core) (m : Manifest) (states after : ℕ → DeviceState) (well : IsWell c) (place : ℕ) (home : slice_get c.places n ≡ Some place) (h : SavesAt w n c m states)
+module _ (w v : SaveStep) (n : ℕ) (c : RunState) (m : Manifest) (states after : ℕ → DeviceState) (well : IsWell c) (place : ℕ) (home : slice_get c.places n ≡ Some place) (h : SavesAt w n c m states)
     (done : OnlyAt place (λ a b. ChangesOnly (record_name m.desc.which n) a b) states after)
     (stays : StaysElsewhere w v n n c.shape.nodes)
     (new : RecordAt (is_written_at v n n) (cells_of after place (record_name m.desc.which n)) m n (is_whole_at v n n) (is_sealed_at v n n))
@@ -137,13 +138,13 @@ module _ (w v : Work) (n : ℕ) (c : Core) (m : Manifest) (states after : ℕ �
     at_quiet i p q at calm (inr other) = subst (λ (d : DeviceState). IsAtRest (d.file q)) (sym (same_states i p at other)) (h.quiet i p q at (stays.pending i (place_of_node c i p well at).1 other calm))
 
 -- each record reads as whole, and nothing is pending
-pub record AreAllWhole (v : Work) (k : ℕ) (nodes : ℕ) : Type 0 where
+pub record AreAllWhole (v : SaveStep) (k : ℕ) (nodes : ℕ) : Type 0 where
   pub written : (i : ℕ) → i < nodes → is_written_at v k i ≡ true
   pub opened : (i : ℕ) → i < nodes → is_whole_at v k i ≡ true
   pub calm : (i : ℕ) → i < nodes → is_pending_at v k i ≡ false
 
 -- after a sync of one node, the records are as before
-pub record StaysAll (w v : Work) (n k : ℕ) (nodes : ℕ) : Type 0 where
+pub record StaysAll (w v : SaveStep) (n k : ℕ) (nodes : ℕ) : Type 0 where
   pub written : (i : ℕ) → i < nodes → is_written_at v k i ≡ is_written_at w n i
   pub whole : (i : ℕ) → i < nodes → is_whole_at v k i ≡ is_whole_at w n i
   pub sealed : (i : ℕ) → i < nodes → is_sealed_at v k i ≡ is_sealed_at w n i
@@ -153,7 +154,7 @@ pub record StaysAll (w v : Work) (n k : ℕ) (nodes : ℕ) : Type 0 where
   pub whole_then : is_sealing_work v ≡ true → (is_sealing_work w ≡ true) ⊎ AreAllWhole v k nodes
   pub below : k < nodes
 
-sync_saves : (w v : Work) (n k : ℕ) (c : Core) (m : Manifest) (states after : ℕ → DeviceState) → IsWell c → (place : ℕ) → slice_get c.places n ≡ Some place → SavesAt w n c m states → OnlyAt place Synced states after → StaysAll w v n k c.shape.nodes → SavesAt v k c m after
+sync_saves : (w v : SaveStep) (n k : ℕ) (c : RunState) (m : Manifest) (states after : ℕ → DeviceState) → IsWell c → (place : ℕ) → slice_get c.places n ≡ Some place → SavesAt w n c m states → OnlyAt place Synced states after → StaysAll w v n k c.shape.nodes → SavesAt v k c m after
 sync_saves w v n k c m states after well place home h done stays = record {
   round = h.round;
   below = stays.below;
@@ -199,16 +200,16 @@ sync_saves w v n k c m states after well place home h done stays = record {
 -- ## The run after a move of the encoder
 
 -- the run at another stage
-abbrev pub staged : Core → Stage → Core
+abbrev pub staged : RunState → RunStage → RunState
 staged c s = record c { stage = s }
 
-staged_well : (c : Core) (s : Stage) → IsWell c → IsWell (staged c s)
+staged_well : (c : RunState) (s : RunStage) → IsWell c → IsWell (staged c s)
 staged_well c s w = record { single = w.single; places = w.places; rise = w.rise; below = w.below; sets = w.sets; opened_run = w.opened_run; opened_below = w.opened_below; opened_last = w.opened_last; output = w.output; ranks = w.ranks }
 
-staged_files : (c : Core) (s : Stage) (cells : Cells) → FilesHold c cells → FilesHold (staged c s) cells
+staged_files : (c : RunState) (s : RunStage) (cells : Cells) → FilesHold c cells → FilesHold (staged c s) cells
 staged_files c s cells f = record { stored = f.stored; halted = f.halted; unindexed = f.unindexed; files = f.files; records = f.records; others = f.others; future = f.future; fresh = f.fresh }
 
-staged_saves : (w : Work) (n : ℕ) (c : Core) (s : Stage) (m : Manifest) (states : ℕ → DeviceState) → SavesAt w n c m states → SavesAt w n (staged c s) m states
+staged_saves : (w : SaveStep) (n : ℕ) (c : RunState) (s : RunStage) (m : Manifest) (states : ℕ → DeviceState) → SavesAt w n c m states → SavesAt w n (staged c s) m states
 staged_saves w n c s m states h = record {
   round = record { complete = h.round.complete; valid = h.round.valid; first = h.round.first; clear = h.round.clear; all = h.round.all };
   below = h.below;
@@ -221,7 +222,7 @@ staged_saves w n c s m states h = record {
   leaves = h.leaves;
 }
 
-pub saving_leads : (first : Machine) (c : Core) (programs : List (List Step)) (states : ℕ → DeviceState) (events : List Event) (w : Work) (n : ℕ) (m : Manifest) → IsSaving first c programs states events w n m → Leads first (staged c (stage.Saving w n)) programs states events
+pub saving_leads : (first : Machine) (c : RunState) (programs : List (List Step)) (states : ℕ → DeviceState) (events : List Event) (w : SaveStep) (n : ℕ) (m : Manifest) → IsSaving first c programs states events w n m → Leads first (staged c (stage.Saving w n)) programs states events
 saving_leads first c programs states events w n m h =
     let s = stage.Saving w n in
     leads_up first (staged c s) programs states events refl (record {
@@ -235,7 +236,7 @@ saving_leads first c programs states events w n m h =
     })
 
 -- a record of the dataset was written, or a gate of it turned
-pub save_put : (first : Machine) (c : Core) (programs : List (List Step)) (states after : ℕ → DeviceState) (events : List Event) (w v : Work) (n : ℕ) (m : Manifest) (place : ℕ) → slice_get c.places n ≡ Some place → IsSaving first c programs states events w n m
+pub save_put : (first : Machine) (c : RunState) (programs : List (List Step)) (states after : ℕ → DeviceState) (events : List Event) (w v : SaveStep) (n : ℕ) (m : Manifest) (place : ℕ) → slice_get c.places n ≡ Some place → IsSaving first c programs states events w n m
     → OnlyAt place (λ a b. ChangesOnly (record_name m.desc.which n) a b) states after → StaysElsewhere w v n n c.shape.nodes
     → RecordAt (is_written_at v n n) (cells_of after place (record_name m.desc.which n)) m n (is_whole_at v n n) (is_sealed_at v n n) → is_written_at v n n ≡ true → is_pending_at v n n ≡ true
     → LeavesRecord v c.opened m ((after place).file (record_name m.desc.which n)) (member_body m.desc n m.files)
@@ -258,7 +259,7 @@ save_put first c programs states after events w v n m place home h done stays ne
     }
 
 -- a node was made stable
-pub save_sync : (first : Machine) (c : Core) (programs : List (List Step)) (states after : ℕ → DeviceState) (events : List Event) (w v : Work) (n k : ℕ) (m : Manifest) (place : ℕ) → slice_get c.places n ≡ Some place → IsSaving first c programs states events w n m
+pub save_sync : (first : Machine) (c : RunState) (programs : List (List Step)) (states after : ℕ → DeviceState) (events : List Event) (w v : SaveStep) (n k : ℕ) (m : Manifest) (place : ℕ) → slice_get c.places n ≡ Some place → IsSaving first c programs states events w n m
     → OnlyAt place Synced states after → StaysAll w v n k c.shape.nodes → IsSaving first c programs after events v k m
 save_sync first c programs states after events w v n k m place home h done stays =
     let same = alike_cells place states after done in

@@ -11,13 +11,13 @@ use Rattle.member_store.specs.Names.{record_name, IsPlace}
 use Rattle.member_store.specs.Members.{AreMembers, ReadsMember, IsBefore}
 use Rattle.member_store.specs.declared.member.Member.{Member}
 use Rattle.ckpt_model.specs.Machine.{Setup}
-use Rattle.site_core.specs.declared.cache.Manifest.{Manifest}
+use Rattle.site_state.specs.declared.cache.Manifest.{Manifest}
 use Rattle.site_core.specs.Stored.{cells_of}
 use Rattle.site_core.specs.Holds.{StoreHolds, settled_set}
-use Rattle.site_core.specs.Choosing.{AscendFrom}
-use Rattle.site_core.specs.Looks.{is_standing}
+use Rattle.site_state.specs.Choosing.{AscendFrom}
+use Rattle.site_state.specs.Looks.{is_standing}
 use Rattle.site_core.proofs.Frames.{is_place, data-same}
-use Rattle.site_core.proofs.Puts.{few_nodes}
+use Rattle.site_state.proofs.Shapes.{few_nodes}
 
 -- what a member's record says of its dataset
 abbrev pub manifest_of : Member → Manifest

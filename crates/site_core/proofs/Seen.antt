@@ -12,21 +12,21 @@ use Rattle.ckpt_model.specs.declared.event.Event.{Event}
 use Rattle.ckpt_model.specs.declared.event.Event.TheVariants as event
 use Rattle.ckpt_model.specs.declared.event.FoundRow.{FoundRow}
 use Rattle.ckpt_model.specs.Machine.{Machine}
-use Rattle.site_core.specs.declared.cache.Cached.{Cached}
-use Rattle.site_core.specs.declared.cache.Manifest.{Manifest}
-use Rattle.site_core.specs.declared.core_state.Core.{Core}
-use Rattle.site_core.specs.declared.core_state.Stage.TheVariants as stage
-use Rattle.site_core.specs.Shown.{setup_of, mends, row_of, settled_if}
-use Rattle.site_core.specs.Cores.{recovered, seen_core}
-use Rattle.site_core.specs.Looks.{is_standing, found_member}
+use Rattle.site_state.specs.declared.cache.Cached.{Cached}
+use Rattle.site_state.specs.declared.cache.Manifest.{Manifest}
+use Rattle.site_state.specs.declared.run_state.RunState.{RunState}
+use Rattle.site_state.specs.declared.run_state.RunStage.TheVariants as stage
+use Rattle.site_state.specs.Shown.{setup_of, mends, row_of, settled_if}
+use Rattle.site_state.specs.Cores.{recovered, seen_core}
+use Rattle.site_state.specs.Looks.{is_standing, found_member}
 use Rattle.site_core.specs.Holds.{Leads, settled_set}
 use Rattle.site_core.proofs.Puts.{place_is}
-use Rattle.site_core.proofs.Ranks.{map-map}
+use Rattle.site_state.proofs.Ranks.{map-map}
 use Rattle.site_core.proofs.Recovering.{found_set, looking, found, mends_one, serves_now}
 use Rattle.site_core.proofs.Scanned.{manifest_of, scanned, is_standing_one}
 
 -- recovery is over once nothing is left to look after
-pub recovers : (first : Machine) (c : Core) (programs : List (List Step)) (states : ℕ → DeviceState) (events : List Event) → c.stage ≡ stage.Mending → Leads first c programs states events → Leads first (recovered c) programs states events
+pub recovers : (first : Machine) (c : RunState) (programs : List (List Step)) (states : ℕ → DeviceState) (events : List Event) → c.stage ≡ stage.Mending → Leads first c programs states events → Leads first (recovered c) programs states events
 recovers first c programs states events at leads = pick (list_any mends c.kept) refl where
   pick : (b : Bool) → list_any mends c.kept ≡ b → Leads first (if b then c else record c { stage = stage.Serving }) programs states events
   pick true e = leads
@@ -40,7 +40,7 @@ found_one {Y = Y} f (Some x) y e = (x, refl, same (f x) y e) where
   same : (a b : Y) → Some a ≡ Some b → a ≡ b
   same a b e = cc
 
-pub mended : (first : Machine) (c : Core) (programs : List (List Step)) (states : ℕ → DeviceState) (events events' : List Event) (which : Rattle.scr_base.specs.declared.shape.DataId.DataId) → c.stage ≡ stage.Mending
+pub mended : (first : Machine) (c : RunState) (programs : List (List Step)) (states : ℕ → DeviceState) (events events' : List Event) (which : Rattle.scr_base.specs.declared.shape.DataId.DataId) → c.stage ≡ stage.Mending
     → option_map (λ (set : Cached). set.manifest.desc.which) (find mends c.kept) ≡ Some which → events' ≡ events ++ event.Mended which ∷ [] → Leads first c programs states events
     → Leads first (recovered (record c { kept = map (settled_if which) c.kept })) programs states events'
 mended first c programs states events events' which at next more leads =
@@ -63,7 +63,7 @@ rows_same : (sets : List Manifest) → map row_of (map found_set sets) ≡ map r
 rows_same sets = map-map row_of found_set (λ m. row_of (settled_set m)) (λ m. refl) sets ∙ sym (map-map row_of settled_set (λ m. row_of (settled_set m)) (λ m. refl) sets)
 
 -- the run with what it found
-pub seen : (first : Machine) (c : Core) (programs : List (List Step)) (states : ℕ → DeviceState) (events events' : List Event) (place : ℕ) (members : List Member) (kept : List Cached) → c.stage ≡ stage.Looking → slice_get c.places 0 ≡ Some place
+pub seen : (first : Machine) (c : RunState) (programs : List (List Step)) (states : ℕ → DeviceState) (events events' : List Event) (place : ℕ) (members : List Member) (kept : List Cached) → c.stage ≡ stage.Looking → slice_get c.places 0 ≡ Some place
     → AreMembers c.shape (states place) members → kept ≡ map found_member (filter is_standing members) → events' ≡ events ++ event.Found (map row_of kept) [] ∷ [] → Leads first c programs states events
     → Leads first (recovered (seen_core c kept)) programs states events'
 seen first c programs states events events' place members kept at home are kept_by more leads =

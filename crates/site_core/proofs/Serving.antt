@@ -1,17 +1,13 @@
 -- A rank calls, a round is decided, and a rank takes its reply, over the devices as they are.
-use Rattle.std.proofs.Common.{◌≡◌, ◌≢◌, ℕ, Bool, true, false, List, [], ◌∷◌, ◌++◌, length, map, Option, Some, None, refl, sym, ap, ◌∙◌, subst, slice_get, slice_set, IfSome}
-use Rattle.std.specs.Prelude.{IsSomeAnd, not, option_and_then}
+use Rattle.std.proofs.Common.{◌≡◌, ◌≢◌, ℕ, true, false, List, [], ◌∷◌, ◌++◌, length, map, Option, Some, None, refl, sym, ap, ◌∙◌, subst, slice_get, slice_set, IfSome}
+use Rattle.std.specs.Prelude.{IsSomeAnd}
 use Rattle.std.specs.List.{list_any}
 use Rattle.std.proofs.lemmas.List.{length-map, length-set}
 use Rattle.scr_base.specs.declared.content.Step.{Step}
-use Rattle.scr_base.specs.declared.content.Step.TheVariants as step
 use Rattle.scr_base.specs.declared.answers.Phase.{Phase}
 use Rattle.scr_base.specs.declared.answers.Phase.TheVariants as phase
-use Rattle.scr_base.specs.declared.answers.Refusal.{Refusal}
-use Rattle.scr_base.specs.declared.answers.Refusal.TheVariants as refusal
 use Rattle.scr_base.specs.declared.answers.Reply.{Reply}
 use Rattle.scr_base.specs.declared.shape.DataId.{DataId}
-use Rattle.scr_base.specs.Calls.{or_else, refuse_if, judged, allows}
 use Rattle.node_device.specs.DeviceState.{DeviceState}
 use Rattle.ckpt_model.specs.declared.event.Event.{Event}
 use Rattle.ckpt_model.specs.declared.event.Event.TheVariants as event
@@ -20,31 +16,29 @@ use Rattle.ckpt_model.specs.Machine.{Machine}
 use Rattle.ckpt_model.specs.Runs.{StepsTo}
 use Rattle.round_core.specs.declared.seat.Seat.{Seat}
 use Rattle.round_core.specs.declared.seat.Doing.TheVariants as doing
-use Rattle.round_core.specs.Seats.{called, freed, owed, next_number, judged_of}
-use Rattle.site_core.specs.declared.cache.Manifest.{Manifest}
-use Rattle.site_core.specs.declared.core_state.Core.{Core}
-use Rattle.site_core.specs.declared.core_state.Stage.{Stage}
-use Rattle.site_core.specs.declared.core_state.Stage.TheVariants as stage
-use Rattle.site_core.specs.Shown.{running, setup_of, mends, served, decided}
-use Rattle.site_core.specs.Choosing.{seals}
+use Rattle.round_core.specs.Seats.{called, freed, owed, next_number}
+use Rattle.site_state.specs.declared.cache.Manifest.{Manifest}
+use Rattle.site_state.specs.declared.run_state.RunState.{RunState}
+use Rattle.site_state.specs.declared.run_state.RunStage.{RunStage}
+use Rattle.site_state.specs.declared.run_state.RunStage.TheVariants as stage
+use Rattle.site_state.specs.Shown.{running, setup_of, mends, served, decided}
+use Rattle.site_state.specs.Choosing.{seals}
 use Rattle.site_core.specs.Stored.{cells_of, contents_of}
 use Rattle.site_core.specs.Holds.{Leads, WorkIs}
-use Rattle.site_core.specs.Follows.{IsClearRound}
-use Rattle.site_core.specs.Steps.{IsNextCall}
+use Rattle.site_state.specs.Asked.{IsClearRound}
+use Rattle.site_state.specs.Steps.{IsNextCall}
 use Rattle.site_core.proofs.Told.{is_up, led, serves, turns}
-use Rattle.site_core.proofs.Gates.{calls, replies}
-
-pub some_same : {X : Type 0} (x y : X) → Some x ≡ Some y → x ≡ y
-some_same x y e = cc
+use Rattle.site_state.proofs.Gates.{calls, replies}
+use Rattle.site_state.proofs.Serving.{clear_allowed, is_resting, not_output}
 
 -- no dataset that serves is to be mended or sealed
-pub at_work : (first : Machine) (c : Core) (programs : List (List Step)) (states : ℕ → DeviceState) (events : List Event) → c.stage ≡ stage.Serving → Leads first c programs states events → (list_any mends c.kept ≡ false) × (list_any seals c.kept ≡ false)
+pub at_work : (first : Machine) (c : RunState) (programs : List (List Step)) (states : ℕ → DeviceState) (events : List Event) → c.stage ≡ stage.Serving → Leads first c programs states events → (list_any mends c.kept ≡ false) × (list_any seals c.kept ≡ false)
 at_work first c programs states events at leads =
     let h = led first c programs states events (ap is_up at) leads in
-    let working : WorkIs stage.Serving c states = subst (λ (s : Stage). WorkIs s c states) at h.working in
+    let working : WorkIs stage.Serving c states = subst (λ (s : RunStage). WorkIs s c states) at h.working in
     working
 
-pub replied : (first : Machine) (c : Core) (programs : List (List Step)) (states : ℕ → DeviceState) (events events' : List Event) (rank : ℕ) (seat : Seat) (answer : Reply) (ranks : List Seat) → c.stage ≡ stage.Serving
+pub replied : (first : Machine) (c : RunState) (programs : List (List Step)) (states : ℕ → DeviceState) (events events' : List Event) (rank : ℕ) (seat : Seat) (answer : Reply) (ranks : List Seat) → c.stage ≡ stage.Serving
     → slice_get c.ranks rank ≡ Some seat → IsSomeAnd (slice_get c.ranks rank) (λ x. (x.doing ≡ doing.Owed answer) × (ranks ≡ slice_set c.ranks rank (freed x)))
     → events' ≡ events ++ event.Reply rank seat.number answer ∷ [] → Leads first c programs states events → Leads first (record c { ranks = ranks }) programs states events'
 replied first c programs states events events' rank seat answer ranks at is owes more leads =
@@ -54,7 +48,7 @@ replied first c programs states events events' rank seat answer ranks at is owes
     (subst (λ (rs : List Seat). StepsTo (setup_of c) (running bytes c) (event.Reply rank seat.number answer) (running bytes (served c c.phase c.offer rs))) (sym o.1) (replies c bytes rank seat answer is o.0))
     tt refl more
 
-pub called_on : (first : Machine) (c : Core) (programs : List (List Step)) (states : ℕ → DeviceState) (events events' : List Event) (rank : ℕ) (call : Step) (ranks : List Seat) → c.stage ≡ stage.Serving
+pub called_on : (first : Machine) (c : RunState) (programs : List (List Step)) (states : ℕ → DeviceState) (events events' : List Event) (rank : ℕ) (call : Step) (ranks : List Seat) → c.stage ≡ stage.Serving
     → (next : IsNextCall programs c rank call) → IfSome (slice_get c.ranks rank) (λ x. ranks ≡ slice_set c.ranks rank (called call x))
     → events' ≡ events ++ event.Call rank (next_number next.seat) call ∷ [] → Leads first c programs states events → Leads first (record c { ranks = ranks }) programs states events'
 called_on first c programs states events events' rank call ranks at next arrived more leads =
@@ -65,7 +59,7 @@ called_on first c programs states events events' rank call ranks at next arrived
     (calls c bytes rank next.seat call next.is next.free (at_work first c programs states events at leads).0 next.collective next.again))
     next.of_program refl more
 
-pub decided_on : (first : Machine) (c : Core) (programs : List (List Step)) (states : ℕ → DeviceState) (events events' : List Event) (kind : Kind) (answer : Reply) (p : Phase) (o : Option DataId) (needs : ℕ) (ranks : List Seat) → c.stage ≡ stage.Serving → ((m : Manifest) → c.opened ≡ Some m → p ≡ phase.Output)
+pub decided_on : (first : Machine) (c : RunState) (programs : List (List Step)) (states : ℕ → DeviceState) (events events' : List Event) (kind : Kind) (answer : Reply) (p : Phase) (o : Option DataId) (needs : ℕ) (ranks : List Seat) → c.stage ≡ stage.Serving → ((m : Manifest) → c.opened ≡ Some m → p ≡ phase.Output)
     → StepsTo (setup_of c) (running (contents_of (cells_of states) c) c) (event.Decided kind answer) (running (contents_of (cells_of states) c) (decided c p o needs (map (owed answer) c.ranks)))
     → ranks ≡ map (owed answer) c.ranks → events' ≡ events ++ event.Decided kind answer ∷ [] → Leads first c programs states events → Leads first (decided c p o needs ranks) programs states events'
 decided_on first c programs states events events' kind answer p o needs ranks at output step is more leads =
@@ -76,54 +70,15 @@ decided_on first c programs states events events' kind answer p o needs ranks at
 
 -- ## Phases
 
-or-none : {X : Type 0} (a b : Option X) → or_else a b ≡ None → a ≡ None
-or-none None b e = refl
-or-none (Some x) b e = absurd (cc e)
-
-or-none-right : {X : Type 0} (a b : Option X) → or_else a b ≡ None → b ≡ None
-or-none-right None b e = e
-or-none-right (Some x) b e = absurd (cc e)
-
-allowed : (b : Bool) (r : Refusal) → refuse_if (not b) r ≡ None → b ≡ true
-allowed true r e = refl
-allowed false r e = absurd (cc e)
-
--- what a clear round calls is allowed in the phase
-pub clear_allowed : (c : Core) (call : Step) → IsClearRound c call → allows c.phase call ≡ true
-clear_allowed c call round =
-    let judged_none : judged c.phase call (Rattle.round_core.specs.Seats.calls_of c.ranks) ≡ None =
-    ap (λ (o : Option Step). option_and_then (λ first. judged c.phase first (Rattle.round_core.specs.Seats.calls_of c.ranks)) o) (sym round.first) ∙ or-none (judged_of c.phase c.ranks) _ round.clear in
-    allowed (allows c.phase call) (refusal.Phase c.phase) (or-none-right _ _ judged_none)
-
 -- no dataset is open where the phase isn't Output
-pub none_open : (first : Machine) (c : Core) (programs : List (List Step)) (states : ℕ → DeviceState) (events : List Event) → c.stage ≡ stage.Serving → Leads first c programs states events → c.phase ≢ phase.Output → c.opened ≡ None
+pub none_open : (first : Machine) (c : RunState) (programs : List (List Step)) (states : ℕ → DeviceState) (events : List Event) → c.stage ≡ stage.Serving → Leads first c programs states events → c.phase ≢ phase.Output → c.opened ≡ None
 none_open first c programs states events at leads other = pick c.opened refl where
   pick : (o : Option Manifest) → c.opened ≡ o → c.opened ≡ None
   pick None e = e
   pick (Some m) e = absurd (other ((led first c programs states events (ap is_up at) leads).well.output m e))
 
--- a call that is made when no dataset is open
-abbrev pub is_resting : Step → Bool
-is_resting (step.Start name flags) = true
-is_resting step.Have = true
-is_resting step.Restart = true
-is_resting (step.Restarted valid) = true
-is_resting step.Finalize = true
-is_resting _ = false
-
-not_output : (p : Phase) (call : Step) → is_resting call ≡ true → allows p call ≡ true → p ≢ phase.Output
-not_output p (step.Start name flags) is may same = absurd (cc (ap (λ (x : Phase). allows x (step.Start name flags)) same, may))
-not_output p step.Have is may same = absurd (cc (ap (λ (x : Phase). allows x step.Have) same, may))
-not_output p step.Restart is may same = absurd (cc (ap (λ (x : Phase). allows x step.Restart) same, may))
-not_output p (step.Restarted valid) is may same = absurd (cc (ap (λ (x : Phase). allows x (step.Restarted valid)) same, may))
-not_output p step.Finalize is may same = absurd (cc (ap (λ (x : Phase). allows x step.Finalize) same, may))
-not_output p _ is may same = absurd (cc is)
-
-pub rests_closed : (first : Machine) (c : Core) (programs : List (List Step)) (states : ℕ → DeviceState) (events : List Event) (call : Step) → c.stage ≡ stage.Serving → Leads first c programs states events → IsClearRound c call → is_resting call ≡ true → c.opened ≡ None
+pub rests_closed : (first : Machine) (c : RunState) (programs : List (List Step)) (states : ℕ → DeviceState) (events : List Event) (call : Step) → c.stage ≡ stage.Serving → Leads first c programs states events → IsClearRound c call → is_resting call ≡ true → c.opened ≡ None
 rests_closed first c programs states events call at leads round is = none_open first c programs states events at leads (not_output c.phase call is (clear_allowed c call round))
 
-pub closed_phase : (c : Core) (p : Phase) → c.opened ≡ None → (m : Manifest) → c.opened ≡ Some m → p ≡ phase.Output
-closed_phase c p closed m opened = absurd (cc (closed, opened))
-
-pub output_of : (first : Machine) (c : Core) (programs : List (List Step)) (states : ℕ → DeviceState) (events : List Event) → c.stage ≡ stage.Serving → Leads first c programs states events → (m : Manifest) → c.opened ≡ Some m → c.phase ≡ phase.Output
+pub output_of : (first : Machine) (c : RunState) (programs : List (List Step)) (states : ℕ → DeviceState) (events : List Event) → c.stage ≡ stage.Serving → Leads first c programs states events → (m : Manifest) → c.opened ≡ Some m → c.phase ≡ phase.Output
 output_of first c programs states events at leads = (led first c programs states events (ap is_up at) leads).well.output

@@ -1,12 +1,9 @@
 -- A dataset is begun.
 use Rattle.std.proofs.Common.{◌≡◌, ◌⊎◌, inl, inr, ℕ, zero, suc, ◌+◌, ◌*◌, ◌/◌, ◌%◌, ◌<◌, ◌≤◌, ◌^◌, true, false, List, [], ◌∷◌, ◌++◌, length, map, replicate, Some, None, refl, sym, ap, ◌∙◌, subst, slice_get, get_or, arith}
-use Rattle.std.specs.Prelude.{IsTrue, All}
-use Rattle.std.proofs.lemmas.Bool.Decides.{nat_tests}
+use Rattle.std.specs.Prelude.{All}
 use Rattle.std.proofs.lemmas.List.{length-map, length-replicate}
 use Rattle.scr_base.specs.declared.shape.DataId.{DataId}
 use Rattle.scr_base.specs.declared.shape.Flags.{Flags}
-use Rattle.scr_base.specs.declared.shape.Shape.{Shape}
-use Rattle.scr_base.specs.declared.shape.Config.{Config}
 use Rattle.scr_base.specs.declared.content.Step.{Step}
 use Rattle.scr_base.specs.declared.content.Step.TheVariants as step
 use Rattle.scr_base.specs.declared.answers.Phase.TheVariants as phase
@@ -16,7 +13,6 @@ use Rattle.node_device.specs.DeviceState.{DeviceState}
 use Rattle.filemap.specs.Rows.{IsRows}
 use Rattle.filemap.specs.Maps.{IsMap, rows_of}
 use Rattle.filemap.specs.declared.rows.FileRow.{FileRow}
-use Rattle.dataset_desc.specs.Ranges.{is_desc}
 use Rattle.ckpt_model.specs.declared.event.Event.{Event}
 use Rattle.ckpt_model.specs.declared.event.Event.TheVariants as event
 use Rattle.ckpt_model.specs.declared.event.Kind.TheVariants as kind
@@ -24,26 +20,23 @@ use Rattle.ckpt_model.specs.Machine.{Machine}
 use Rattle.ckpt_model.proofs.RunLemmas.{run_on}
 use Rattle.round_core.specs.declared.seat.Seat.{Seat}
 use Rattle.round_core.specs.Seats.{owed}
-use Rattle.site_core.specs.declared.cache.Cached.{Cached}
-use Rattle.site_core.specs.declared.cache.Manifest.{Manifest}
-use Rattle.site_core.specs.declared.core_state.Core.{Core}
-use Rattle.site_core.specs.declared.core_state.Stage.{Stage}
-use Rattle.site_core.specs.declared.core_state.Stage.TheVariants as stage
-use Rattle.site_core.specs.Shown.{running, setup_of}
-use Rattle.site_core.specs.Choosing.{AreBelow, is_crowded}
-use Rattle.site_core.specs.Cores.{IsOpened, HasShape}
+use Rattle.site_state.specs.declared.cache.Cached.{Cached}
+use Rattle.site_state.specs.declared.cache.Manifest.{Manifest}
+use Rattle.site_state.specs.declared.run_state.RunState.{RunState}
+use Rattle.site_state.specs.declared.run_state.RunStage.{RunStage}
+use Rattle.site_state.specs.declared.run_state.RunStage.TheVariants as stage
+use Rattle.site_state.specs.Shown.{running, setup_of}
+use Rattle.site_state.specs.Choosing.{AreBelow, is_crowded}
+use Rattle.site_state.specs.Cores.{IsOpened, HasShape}
 use Rattle.site_stands.specs.Described.{is_single}
-use Rattle.site_core.specs.Stored.{Cells, cells_of, contents_of, place_of_rank, IsFuture, IsKnown, IsAmong, IsOfSite}
+use Rattle.site_core.specs.Stored.{cells_of, contents_of, place_of_rank, IsFuture, IsKnown, IsOfSite}
 use Rattle.site_core.specs.Holds.{Leads, IsPending, NoRecordYet, WorkIs}
-use Rattle.site_core.specs.Follows.{IsClearRound}
+use Rattle.site_state.specs.Asked.{IsClearRound}
 use Rattle.site_core.proofs.Told.{is_up, led, leads_up, tells_more}
 use Rattle.site_core.proofs.Frames.{div_small, mod_small}
-use Rattle.site_core.proofs.Puts.{few_ranks, below_of, rank_place_low}
-use Rattle.site_core.proofs.Rounds.{started}
-
--- a dataset's description is within its ranges
-pub desc_ranges : (shape : Shape) (config : Config) (which : DataId) → 1 ≤ which.id → which.id ≤ 4294967295 → 1 ≤ which.run → which.run ≤ 4294967295 → IsTrue (is_desc which shape.nodes shape.ranks config.scheme config.size)
-desc_ranges shape config which a b c d = grind (arith, nat_tests, shape.limits, config.ranges, a, b, c, d)
+use Rattle.site_state.proofs.Shapes.{few_ranks}
+use Rattle.site_core.proofs.Puts.{below_of, rank_place_low}
+use Rattle.site_state.proofs.Rounds.{started}
 
 below-more : (n : ℕ) (sets : List Cached) → AreBelow n sets → AreBelow (n + 1) sets
 below-more n [] below = tt
@@ -67,18 +60,18 @@ some_same : {X : Type 0} (x y : X) → Some x ≡ Some y → x ≡ y
 some_same x y e = cc
 
 -- the run with this dataset begun
-abbrev pub begun_core : Core → Manifest → List Seat → Core
+abbrev pub begun_core : RunState → Manifest → List Seat → RunState
 begun_core c m ranks = record c { opened = Some m; next = c.next + 1; phase = phase.Output; reading = None; ranks = ranks }
 
-pub begins : (first : Machine) (c : Core) (programs : List (List Step)) (states : ℕ → DeviceState) (events events' : List Event) (name : List ℕ) (flags : Flags) (m : Manifest) (which : DataId) (ranks : List Seat) → c.stage ≡ stage.Serving → IsClearRound c (step.Start name flags)
+pub begins : (first : Machine) (c : RunState) (programs : List (List Step)) (states : ℕ → DeviceState) (events events' : List Event) (name : List ℕ) (flags : Flags) (m : Manifest) (which : DataId) (ranks : List Seat) → c.stage ≡ stage.Serving → IsClearRound c (step.Start name flags)
     → c.opened ≡ None → is_crowded c ≡ false → which ≡ record { id = c.next; run = c.run } → IsOpened c name flags m → HasShape c m → ranks ≡ map (owed (reply.Started which)) c.ranks
     → events' ≡ events ++ event.Decided kind.Start (reply.Started which) ∷ [] → Leads first c programs states events → Leads first (begun_core c m ranks) programs states events'
 begins first c programs states events events' name flags m which ranks at round closed room is opened shape ranks_are more leads =
     let h = led first c programs states events (ap is_up at) leads in
     let d = begun_core c m ranks in
     let bytes = contents_of (cells_of states) c in
-    let working : WorkIs stage.Serving c states = subst (λ (s : Stage). WorkIs s c states) at h.working in
-    let quiet = subst (λ (s : Stage). (p : ℕ) (q : List ℕ) → p ≤ 32 → (p < c.shape.nodes → IsPending s c q → ⊥) → IsAtRest ((states p).file q)) at h.quiet in
+    let working : WorkIs stage.Serving c states = subst (λ (s : RunStage). WorkIs s c states) at h.working in
+    let quiet = subst (λ (s : RunStage). (p : ℕ) (q : List ℕ) → p ≤ 32 → (p < c.shape.nodes → IsPending s c q → ⊥) → IsAtRest ((states p).file q)) at h.quiet in
     leads_up first d programs states events' (ap is_up at) (record {
       run = run_on (setup_of c) first (running bytes c) (running bytes d) events events' (event.Decided kind.Start (reply.Started which)) more h.run
           (subst (λ (rs : List Seat). Rattle.ckpt_model.specs.Runs.StepsTo (setup_of c) (running bytes c) (event.Decided kind.Start (reply.Started which)) (running bytes (begun_core c m rs))) (sym ranks_are)
@@ -107,8 +100,8 @@ begins first c programs states events events' name flags m which ranks at round 
         fresh = λ x e rank j lt small past. no_file h.well h.files x e rank j lt small;
       };
       quiet = λ p q low calm. quiet p q low (λ on pending. absurd (cc (closed, pending.1)));
-      unrecorded = subst (λ (s : Stage). NoRecordYet s d (cells_of states)) (sym at) (λ x e p node low place. h.files.others p x.desc.which node low place (λ y known same home. not_known h.well x e y known same));
-      working = subst (λ (s : Stage). WorkIs s d states) (sym at) working;
+      unrecorded = subst (λ (s : RunStage). NoRecordYet s d (cells_of states)) (sym at) (λ x e p node low place. h.files.others p x.desc.which node low place (λ y known same home. not_known h.well x e y known same));
+      working = subst (λ (s : RunStage). WorkIs s d states) (sym at) working;
     }) where
       which_is : (x : Manifest) → Some m ≡ Some x → x.desc.which ≡ record { id = c.next; run = c.run }
       which_is x e = ap (λ (y : Manifest). y.desc.which) (sym (some_same m x e)) ∙ opened.which

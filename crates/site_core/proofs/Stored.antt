@@ -31,17 +31,19 @@ use Rattle.ckpt_model.specs.Machine.{Machine, Setup, Kept}
 use Rattle.ckpt_model.specs.Steps.{are_places, are_distinct, physical_count, after_begin, is_between}
 use Rattle.ckpt_model.proofs.RunLemmas.{run_on}
 use Rattle.ckpt_model.proofs.SameLemmas.{bytes-same}
-use Rattle.site_core.specs.declared.cache.Manifest.{Manifest}
-use Rattle.site_core.specs.declared.core_state.Core.{Core}
-use Rattle.site_core.specs.declared.core_state.Stage.{Stage}
-use Rattle.site_core.specs.declared.core_state.Stage.TheVariants as stage
-use Rattle.site_core.specs.Calls.{Tells}
-use Rattle.site_core.specs.Numbers.{IsNumberFile, Way}
-use Rattle.site_core.specs.Shown.{Contents, setup_of, kept_of, begun}
-use Rattle.site_core.specs.Stored.{cells_of, contents_of, contents_in, is_named, place_of_rank, file_name, run_number, FilesStand, FileStands, RecordsStand, RecordIs, NoOtherRecords, NoFutureFiles, IsFuture}
+use Rattle.site_state.specs.declared.cache.Manifest.{Manifest}
+use Rattle.site_state.specs.declared.run_state.RunState.{RunState}
+use Rattle.site_state.specs.declared.run_state.RunStage.{RunStage}
+use Rattle.site_state.specs.declared.run_state.RunStage.TheVariants as stage
+use Rattle.site_calls.specs.Calls.{Tells}
+use Rattle.site_calls.specs.Numbers.{IsNumberFile, Way}
+use Rattle.site_state.specs.Shown.{Contents, setup_of, kept_of, begun}
+use Rattle.site_calls.specs.Numbers.{run_number}
+use Rattle.site_core.specs.Stored.{cells_of, contents_of, contents_in, is_named, place_of_rank, file_name, FilesStand, FileStands, RecordsStand, RecordIs, NoOtherRecords, NoFutureFiles, IsFuture}
 use Rattle.site_core.specs.Holds.{HoldsAt, ClosesAt, Leads, IsOneOf, settled_set, IsStoring, IsSoFar}
 use Rattle.site_core.proofs.Halts.{halt_apart, unindexed_apart}
-use Rattle.site_core.proofs.Puts.{place_is, few_nodes}
+use Rattle.site_core.proofs.Puts.{place_is}
+use Rattle.site_state.proofs.Shapes.{few_nodes}
 use Rattle.site_core.proofs.Numbering.{storing_at, told_storing}
 
 -- ## Places
@@ -111,7 +113,7 @@ nodes_same states after others p low = fun_ext (λ q. ap (λ (d : DeviceState). 
 abbrev pub Stepped : PairValue → Bool → Option (List Change) → Option (List Change) → (ℕ → DeviceState) → (ℕ → DeviceState) → Type 0
 Stepped want over before next states after = OnlyAt 32 (λ a b. StepsPair (codes "run") want (Ok over) before next a b) states after
 
-pub stepped : (first : Machine) (c : Core) (programs : List (List Step)) (states after : ℕ → DeviceState) (events : List Event) (over : Bool) (way : Way) → c.stage ≡ stage.Storing → way.want ≡ c.storing.want
+pub stepped : (first : Machine) (c : RunState) (programs : List (List Step)) (states after : ℕ → DeviceState) (events : List Event) (over : Bool) (way : Way) → c.stage ≡ stage.Storing → way.want ≡ c.storing.want
     → Stepped c.storing.want over c.storing.changes way.changes states after → (after 32).tells ≡ true → Leads first c programs states events → Leads first (record c { storing = way }) programs after events
 stepped first c programs states after events over way at same done told leads =
     let m = leads.state in
@@ -119,7 +121,7 @@ stepped first c programs states after events over way at same done told leads =
     let fresh = h.fresh in
     let places = fresh.places in
     let nodes = nodes_same states after done.others in
-    let d : Core = record c { storing = way } in
+    let d : RunState = record c { storing = way } in
     let way_on : IsPairStage (codes "run") h.old c.storing.want (after 32) way.changes = (done.here.goes h.old h.way).stage in
     let holds : IsStoring d after m = record {
       fresh = record { single = fresh.single; places = fresh.places; phase_is = fresh.phase_is; offer = fresh.offer; opened = fresh.opened; ranks = fresh.ranks; settled = fresh.settled; needs = fresh.needs; reading = fresh.reading };
@@ -149,9 +151,9 @@ stepped first c programs states after events over way at same done told leads =
     record {
       state = m;
       run = leads.run;
-      holds = subst (λ (s : Stage). HoldsAt s d after m) (sym at) holds;
+      holds = subst (λ (s : RunStage). HoldsAt s d after m) (sym at) holds;
       told = leads.told;
-      closes = subst (λ (s : Stage). ClosesAt s (setup_of c) first c.places programs after events) (sym at) tt;
+      closes = subst (λ (s : RunStage). ClosesAt s (setup_of c) first c.places programs after events) (sym at) tt;
     } where
       pick : (p : ℕ) (q : List ℕ) → p ≤ 32 → (p ≡ 32 → IsNumberFile q → ⊥) → (p ≡ 32) ⊎ (p ≢ 32) → IsAtRest ((states p).file q) → IsAtRest ((after p).file q)
       pick p q low other (inl is) rest = subst (λ (k : ℕ). IsAtRest ((after k).file q)) (sym is) (done.here.rest q (λ e. other is (inl e)) (λ e. other is (inr e)) (subst (λ (k : ℕ). IsAtRest ((states k).file q)) is rest))
@@ -190,11 +192,11 @@ four a b c d p q r t = rw (p, q, r, t) refl
 small_run : (n k : ℕ) → k ≡ n + 1 → k < 2 ^ 32 → nat_lt n 4294967295 ≡ true
 small_run n k e lt = grind (arith, nat_tests, e, lt)
 
-begun_is : (c : Core) (m : Machine) (kept : List Kept) → m.kept ≡ kept → m.index ≡ [] → m.halt ≡ conditions c.halt → m.mark ≡ None → begun c m.next kept ≡ after_begin (setup_of c) m c.run c.places
+begun_is : (c : RunState) (m : Machine) (kept : List Kept) → m.kept ≡ kept → m.index ≡ [] → m.halt ≡ conditions c.halt → m.mark ≡ None → begun c m.next kept ≡ after_begin (setup_of c) m c.run c.places
 begun_is c m kept k i h e = rw (k, i, h, e) refl
 
 -- the run's number is stored: the run is told
-pub arrived : (first : Machine) (c : Core) (programs : List (List Step)) (states after : ℕ → DeviceState) (events events' : List Event) (over : Bool) (way : Way) → c.stage ≡ stage.Storing → over ≡ true → Tells states
+pub arrived : (first : Machine) (c : RunState) (programs : List (List Step)) (states after : ℕ → DeviceState) (events events' : List Event) (over : Bool) (way : Way) → c.stage ≡ stage.Storing → over ≡ true → Tells states
     → Stepped c.storing.want over c.storing.changes way.changes states after → events' ≡ events ++ event.Run c.run c.places ∷ [] → Leads first c programs states events
     → Leads first (record c { storing = way; stage = stage.Looking }) programs after events'
 arrived first c programs states after events events' over way at is_over tells done more leads =
@@ -210,7 +212,7 @@ arrived first c programs states after events events' over way at is_over tells d
     let copy = two (copy_of want) (mod-lt want.version {m = 2} (omega arith)) in
     let files : ℕ → File = λ k. (after 32).file (copy_name (codes "run") k) in
     let at_rest = come_rest files (copy_of want) want copy stands in
-    let d : Core = record c { storing = way; stage = stage.Looking } in
+    let d : RunState = record c { storing = way; stage = stage.Looking } in
     let kept = map (kept_of (setup_of c) (contents_of (cells_of after) c) c.places) (map settled_set h.sets) in
     let kept_is : m.kept ≡ kept = h.kept ∙ ap (λ (bytes : Contents). map (kept_of (setup_of c) bytes c.places) (map settled_set h.sets)) (sym (contents_after states after nodes c.shape c.places places)) in
     let future : NoFutureFiles (cells_of after) c.run 0 = subst (λ (r : ℕ). NoFutureFiles (cells_of after) r 0) (sym h.run) (future_after states after nodes (m.run + 1) 0 h.future) in

@@ -8,49 +8,51 @@ use Rattle.scr_base.specs.declared.answers.Reply.{Reply}
 use Rattle.scr_base.specs.declared.answers.Reply.TheVariants as reply
 use Rattle.ckpt_model.specs.Answers.{is_fault}
 use Rattle.ckpt_model.specs.declared.event.Event.TheVariants as event
-use Rattle.site_core.specs.declared.error.Trouble.{Trouble}
-use Rattle.site_core.specs.Causes.{CallCause, cause_of, is_told, is_device_fault}
+use Rattle.site_calls.specs.declared.trouble.Trouble.{Trouble}
+use Rattle.site_calls.specs.Causes.{CallCause}
+use Rattle.site_calls.specs.Causes.{is_device_fault}
+use Rattle.site_core.specs.Causes.{cause_of, is_told}
 use Rattle.site_core.proofs.Refusals.{ended_by, ended_for}
 use Rattle.scr_base.specs.declared.content.Step.{Step}
 use Rattle.node_device.specs.Rack.{Rack, states_of}
 use Rattle.ckpt_model.specs.Machine.{Machine}
-use Rattle.site_core.specs.Numbers.{Way}
-use Rattle.site_core.specs.declared.core_state.Core.{Core}
-use Rattle.site_core.specs.declared.core_state.Stage.TheVariants as stage
-use Rattle.site_core.specs.declared.core_state.Work.{Work}
+use Rattle.site_calls.specs.Numbers.{Way}
+use Rattle.site_state.specs.declared.run_state.RunState.{RunState}
+use Rattle.site_state.specs.declared.run_state.RunStage.TheVariants as stage
+use Rattle.site_state.specs.declared.run_state.SaveStep.{SaveStep}
 use Rattle.site_core.specs.Holds.{Leads}
 use Rattle.site_core.proofs.Cuts.{cut_early, cut_looking, cut_saving, told_ends}
 use Rattle.site_core.proofs.Closing.{IsLawful, over_core}
-use Rattle.site_core.proofs.Sounds.{sound_of}
+use Rattle.site_calls.proofs.Sounds.{sound_of}
 use Rattle.site_core.proofs.Works.{saves_now, saved_is}
 use Rattle.scr_base.specs.declared.shape.DataId.{DataId}
 use Rattle.member_store.specs.Names.{record_name}
-use Rattle.site_core.specs.Cores.{saved_in}
-use Rattle.site_core.specs.declared.core_state.Work.TheVariants as work
+use Rattle.site_state.specs.Cores.{saved_in}
+use Rattle.site_state.specs.declared.run_state.SaveStep.TheVariants as work
 use Rattle.node_device.specs.Rack.{OnlyAt}
-use Rattle.site_core.specs.declared.cache.Manifest.{Manifest}
-use Rattle.site_core.specs.Calls.{KeptAlike, Unturned, Unnumbered}
+use Rattle.site_state.specs.declared.cache.Manifest.{Manifest}
+use Rattle.site_calls.specs.Calls.{KeptAlike, Unturned, Unnumbered}
 use Rattle.site_core.specs.Holds.{IsSaving}
-use Rattle.site_core.specs.Shown.{running}
+use Rattle.site_state.specs.Shown.{running}
 use Rattle.site_core.specs.Stored.{cells_of, contents_of}
-use Rattle.site_core.specs.Waiting.{is_over}
+use Rattle.site_state.specs.Waiting.{is_over}
 use Rattle.std.specs.Prelude.{IsTrue}
 use Rattle.ckpt_model.specs.declared.event.StopCause.{StopCause}
 use Rattle.ckpt_model.specs.Moves.{may}
 use Rattle.ckpt_model.specs.Stops.{may_make}
-use Rattle.site_core.specs.declared.error.Trouble.TheVariants as error
-use Rattle.site_core.specs.Cores.{sealed_core}
+use Rattle.site_calls.specs.declared.trouble.Trouble.TheVariants as error
+use Rattle.site_state.specs.Cores.{sealed_core}
 use Rattle.site_core.specs.Left.{LeavesKept}
-use Rattle.site_core.specs.Shown.{setup_of}
-use Rattle.site_core.proofs.Gates.{both}
+use Rattle.site_state.specs.Shown.{setup_of}
+use Rattle.site_state.proofs.Gates.{both}
 use Rattle.site_core.proofs.SaveEnds.{seal_told}
-use Rattle.site_core.proofs.Seals.{sealing}
+use Rattle.site_state.proofs.Seals.{sealing}
 use Rattle.site_core.proofs.Works.{opened_is}
 use Rattle.site_core.proofs.Numbering.{storing_at}
 use Rattle.site_core.proofs.LeftStages.{IsLeft, Remains, remains, stage_left, left_unnumbered, left_alike, whole_refused, sealed_refused, loose_left, loose_of}
-use Rattle.site_core.specs.declared.turn.Turn.{Turn}
-use Rattle.site_core.specs.declared.turn.Turn.TheVariants as turn
-use Rattle.site_core.specs.declared.error.SiteError.{SiteError}
+use Rattle.site_state.specs.declared.turn.Turn.{Turn}
+use Rattle.site_state.specs.declared.turn.Turn.TheVariants as turn
+use Rattle.site_state.specs.declared.error.SiteError.{SiteError}
 use Rattle.site_core.specs.declared.site.Site.{Site}
 use Rattle.site_core.specs.Follows.{Each, Stays, Tells, carried, IsCaused, IsCarried, IsRefusedFor, IsEndedFor, IsOfWorker, Follows, Keeps}
 
@@ -118,7 +120,7 @@ module _ {D : Type 0} (state : D → DeviceState) (old new : Site D) (t : Troubl
 
   module _ (core : new.core ≡ over_core old.core) (programs : new.programs ≡ old.programs) where
     pub leads_so : (first : Machine) → Leads first (over_core old.core) old.programs (states_of state new.bay) new.history.events → Follows state first new
-    leads_so first l = subst (λ (x : Core). Leads first x new.programs (states_of state new.bay) new.history.events) (sym core) (subst (λ (ps : List (List Step)). Leads first (over_core old.core) ps (states_of state new.bay) new.history.events) (sym programs) l)
+    leads_so first l = subst (λ (x : RunState). Leads first x new.programs (states_of state new.bay) new.history.events) (sym core) (subst (λ (ps : List (List Step)). Leads first (over_core old.core) ps (states_of state new.bay) new.history.events) (sym programs) l)
 
     pub ends_early : (old.core.stage ≡ stage.Begun) ⊎ (old.core.stage ≡ stage.Storing) → is_told t ≡ true → (bay : Rack D) → new.bay ≡ bay → OnlyAt 32 KeptAlike (states_of state old.bay) (states_of state bay) → Keeps state old new
     ends_early at told bay same done tells first base f =
@@ -129,24 +131,24 @@ module _ {D : Type 0} (state : D → DeviceState) (old new : Site D) (t : Troubl
         leads_so first (cut_looking first old.core old.programs (states_of state old.bay) (states_of state new.bay) old.history.events new.history.events (cause_of t) (lawful state base.sound new.bay) base.fair at (told_ends t told) is f (alike_left first place bay same done (ap is_over at) f))
 
     -- what is left of a run that saves a dataset, whichever that is
-    abbrev pub SavingLeft : Work → ℕ → Rack D → Type 0
+    abbrev pub SavingLeft : SaveStep → ℕ → Rack D → Type 0
     SavingLeft w n bay = (first : Machine) (m : Manifest) → IsSaving first old.core old.programs (states_of state old.bay) old.history.events w n m → Remains old.core (states_of state bay) (running (contents_of (cells_of (states_of state old.bay)) old.core) old.core) (cause_of t)
 
-    pub ends_saving : (w : Work) (n : ℕ) → old.core.stage ≡ stage.Saving w n → is_device_fault t ≡ true → (bay : Rack D) → new.bay ≡ bay → SavingLeft w n bay → Keeps state old new
+    pub ends_saving : (w : SaveStep) (n : ℕ) → old.core.stage ≡ stage.Saving w n → is_device_fault t ≡ true → (bay : Rack D) → new.bay ≡ bay → SavingLeft w n bay → Keeps state old new
     ends_saving w n at fault bay same left tells first base f =
         let h = saves_now first old.core old.programs (states_of state old.bay) old.history.events w n at f in
         leads_so first (cut_saving first old.core old.programs (states_of state old.bay) (states_of state new.bay) old.history.events new.history.events t w n h.0 (lawful state base.sound new.bay) base.fair h.1 fault is
         (subst (λ (b : Rack D). Remains old.core (states_of state b) (running (contents_of (cells_of (states_of state old.bay)) old.core) old.core) (cause_of t)) (sym same) (left first h.0 h.1)))
 
   -- the number's way may have changed with it
-  pub ends_storing : (w : Way) → new.core ≡ (let x : Core = record old.core { stage = stage.Over; storing = w } in x) → new.programs ≡ old.programs → old.core.stage ≡ stage.Storing → is_told t ≡ true
+  pub ends_storing : (w : Way) → new.core ≡ (let x : RunState = record old.core { stage = stage.Over; storing = w } in x) → new.programs ≡ old.programs → old.core.stage ≡ stage.Storing → is_told t ≡ true
       → (bay : Rack D) → new.bay ≡ bay → OnlyAt 32 (Unnumbered old.core.storing.want old.core.storing.changes) (states_of state old.bay) (states_of state bay) → Keeps state old new
   ends_storing w core programs at told bay same done tells first base f =
       let l = cut_early first old.core old.programs (states_of state old.bay) (states_of state new.bay) old.history.events new.history.events (cause_of t) (lawful state base.sound new.bay) base.fair (inr at) (told_ends t told) is f (subst (λ (b : Rack D). IsLeft old.core (states_of state b) f.state) (sym same)
       (left_unnumbered old.core (states_of state old.bay) (states_of state bay) f.state at (storing_at old.core.stage old.core (states_of state old.bay) f.state at f.holds) (done.here.only.tells ∙ tells 32 (omega arith)) done)) in
-      let m : Leads first (let x : Core = record old.core { stage = stage.Over; storing = w } in x) old.programs (states_of state new.bay) new.history.events = record { state = l.state; run = l.run; holds = tt; told = tt; closes = l.closes } in
-      subst (λ (x : Core). Leads first x new.programs (states_of state new.bay) new.history.events) (sym core)
-      (subst (λ (ps : List (List Step)). Leads first (let x : Core = record old.core { stage = stage.Over; storing = w } in x) ps (states_of state new.bay) new.history.events) (sym programs) m)
+      let m : Leads first (let x : RunState = record old.core { stage = stage.Over; storing = w } in x) old.programs (states_of state new.bay) new.history.events = record { state = l.state; run = l.run; holds = tt; told = tt; closes = l.closes } in
+      subst (λ (x : RunState). Leads first x new.programs (states_of state new.bay) new.history.events) (sym core)
+      (subst (λ (ps : List (List Step)). Leads first (let x : RunState = record old.core { stage = stage.Over; storing = w } in x) ps (states_of state new.bay) new.history.events) (sym programs) m)
 
 -- ## What is left of a run that saves a dataset
 
@@ -155,7 +157,7 @@ module _ {D : Type 0} (state : D → DeviceState) (old : Site D) (n place : ℕ)
   before = running (contents_of (cells_of (states_of state old.bay)) old.core) old.core
 
   -- a sync was refused
-  pub synced_left : (w : Work) (why : StopCause) → OnlyAt place KeptAlike (states_of state old.bay) (states_of state bay) → (first : Machine) (m : Manifest) → IsSaving first old.core old.programs (states_of state old.bay) old.history.events w n m → Remains old.core (states_of state bay) before why
+  pub synced_left : (w : SaveStep) (why : StopCause) → OnlyAt place KeptAlike (states_of state old.bay) (states_of state bay) → (first : Machine) (m : Manifest) → IsSaving first old.core old.programs (states_of state old.bay) old.history.events w n m → Remains old.core (states_of state bay) before why
   synced_left w why done first m h = remains old.core (states_of state bay) before why (left_alike old.core place (states_of state old.bay) (states_of state bay) before done
       (loose_left w n old.core m (states_of state old.bay) (loose_of first old.core old.programs (states_of state old.bay) old.history.events w n m h)))
 

@@ -1,5 +1,5 @@
 -- A site's history is a run of the machine to a state for which its memory and its devices stand.
-use Rattle.std.specs.Prelude.{◌≡◌, ◌⊎◌, ◌≤◌, ◌<◌, ◌+◌, ℕ, true, false, List, [], ◌∷◌, ◌++◌, length, map, slice_get, slice_set, Option, Some, None}
+use Rattle.std.specs.Prelude.{◌≡◌, ◌⊎◌, ◌≤◌, ◌+◌, ℕ, true, false, List, [], ◌∷◌, ◌++◌, length, map, slice_get, slice_set, Option, Some, None, Bool}
 use Rattle.scr_base.specs.declared.actor.Actor.{Actor}
 use Rattle.scr_base.specs.declared.actor.Actor.TheVariants.{Rank, Encoder}
 use Rattle.scr_base.specs.declared.answers.Phase.{Phase}
@@ -20,26 +20,28 @@ use Rattle.round_core.specs.declared.seat.Seat.{Seat}
 use Rattle.scr_base.specs.declared.answers.Refusal.{Refusal}
 use Rattle.scr_base.specs.declared.answers.Reply.TheVariants as replies
 use Rattle.ckpt_model.specs.Answers.{is_fault}
-use Rattle.round_core.specs.Seats.{is_complete, first_call, owed, stepped}
+use Rattle.round_core.specs.Seats.{owed, stepped}
 use Rattle.site_core.specs.declared.site.Site.{Site}
-use Rattle.site_core.specs.declared.core_state.Core.{Core}
-use Rattle.site_core.specs.declared.cache.Manifest.{Manifest}
-use Rattle.site_core.specs.declared.core_state.Work.{Work}
+use Rattle.site_state.specs.declared.run_state.RunState.{RunState}
+use Rattle.site_state.specs.declared.cache.Manifest.{Manifest}
+use Rattle.site_state.specs.declared.run_state.SaveStep.{SaveStep}
 use Rattle.scr_base.specs.declared.answers.Refusal.TheVariants as refusal
 use Rattle.ckpt_model.specs.declared.event.StopCause.{StopCause}
 use Rattle.ckpt_model.specs.declared.event.StopCause.TheVariants as stops
-use Rattle.site_core.specs.declared.core_state.Stage.{Stage}
-use Rattle.site_core.specs.declared.core_state.Stage.TheVariants.{Over, Dropping, Dropped}
-use Rattle.site_core.specs.declared.turn.Turn.{Turn}
-use Rattle.site_core.specs.declared.turn.Turn.TheVariants as turn
-use Rattle.site_core.specs.Waiting.{is_over}
-use Rattle.site_core.specs.Causes.{IsFault, IsFull, IsCalm}
-use Rattle.site_core.specs.Writes.{IsNoWrite, MakesWrite, MayWrite, PassesOn}
-use Rattle.site_core.specs.Shown.{Contents, running, setup_of, served, decided}
-use Rattle.site_core.specs.Choosing.{verdict_of}
-use Rattle.site_core.specs.Calls.{TellsAlike, Tells as AllTell}
+use Rattle.site_state.specs.declared.run_state.RunStage.{RunStage}
+use Rattle.site_state.specs.declared.run_state.RunStage.TheVariants.{Over, Dropping, Dropped}
+use Rattle.site_state.specs.declared.turn.Turn.{Turn}
+use Rattle.site_state.specs.declared.turn.Turn.TheVariants as turn
+use Rattle.site_state.specs.Waiting.{is_over}
+use Rattle.site_calls.specs.Causes.{IsFault, IsFull, IsCalm}
+use Rattle.site_calls.specs.Writes.{IsNoWrite, PassesOn}
+use Rattle.site_core.specs.Writes.{MakesWrite, MayWrite}
+use Rattle.site_state.specs.Shown.{Contents, running, setup_of, served, decided}
+use Rattle.site_calls.specs.Calls.{TellsAlike, Tells as AllTell}
 use Rattle.site_core.specs.Stored.{cells_of, contents_of}
 use Rattle.site_core.specs.Holds.{Leads, IsSaving}
+use Rattle.site_state.specs.declared.run_state.RunStage.TheVariants as stage
+use Rattle.site_state.specs.declared.run_state.SaveStep.TheVariants as work
 
 -- this holds of each event
 abbrev pub Each : (Event → Type 0) → List Event → Type 0
@@ -69,6 +71,14 @@ pub record IsRunFrom {D : Type 0} (state : D → DeviceState) (first : Machine) 
 -- from whatever state the site was a run, it still is
 abbrev pub KeepsRun : {D : Type 0} → (D → DeviceState) → Site D → Site D → Type 0
 KeepsRun state old new = (first : Machine) → IsRunFrom state first old → IsRunFrom state first new
+
+-- After want of memory the run's memory, its programs, what was told and the number of moves are as before, and each device is as it was.
+pub record IsAsBefore {D : Type 0} (state : D → DeviceState) (old new : Site D) : Type 0 where
+  pub core : new.core ≡ old.core
+  pub programs : new.programs ≡ old.programs
+  pub events : new.history.events ≡ old.history.events
+  pub moves : new.moves ≡ old.moves
+  pub devices : states_of state new.bay ≡ states_of state old.bay
 
 -- the run is over
 abbrev pub HasStopped : {D : Type 0} → Site D → Type 0
@@ -148,12 +158,12 @@ IsCaused may old new carried (event.Stop cause) = IsEndedFor may old new cause
 IsCaused may old new carried _ = Unit {0}
 
 -- the refusal that a round carries while its dataset is being removed
-abbrev pub carried_at : Stage → Option Refusal → Option Refusal
+abbrev pub carried_at : RunStage → Option Refusal → Option Refusal
 carried_at (Dropping drop node) refusal = refusal
 carried_at Dropped refusal = refusal
 carried_at _ refusal = None
 
-abbrev pub carried : Core → Option Refusal
+abbrev pub carried : RunState → Option Refusal
 carried c = carried_at c.stage c.refusal
 
 -- at most one event was told, one of these, and it has its cause in a move that may make these writes
@@ -190,7 +200,7 @@ pub record TellsFault (old new : ℕ → DeviceState) (before after : List Event
   pub tells : IsOfFault node count told
 
 -- a round carries no refusal that it didn't carry before
-abbrev pub CarriesNoMore : Core → Core → Type 0
+abbrev pub CarriesNoMore : RunState → RunState → Type 0
 CarriesNoMore old new = (refusal : Refusal) → carried new ≡ Some refusal → carried old ≡ Some refusal
 
 -- no count of faults changed but one that the turn tells, and no round comes to carry a refusal
@@ -215,6 +225,25 @@ TellsOrCarries state old new = TellsFaults state old new ⊎ TakesUp state old n
 abbrev pub AccountsBy : {D : Type 0} → Actor → (D → DeviceState) → Site D → Site D → Type 0
 AccountsBy Encoder state old new = TellsOrCarries state old new
 AccountsBy _ state old new = TellsFaults state old new
+
+-- ## Where a device refuses a round, and where it ends the run
+
+-- until the first gate `whole` is to be opened, a device that refuses the encoder's change refuses the round
+abbrev pub may_refuse : RunStage → Bool
+may_refuse stage.Serving = true
+may_refuse (stage.Saving work.Record node) = true
+may_refuse (stage.Saving work.RecordSync node) = true
+may_refuse _ = false
+
+-- until then no run is ended, and from then on no round comes to carry a refusal
+pub record IsPlaced (old new : RunState) : Type 0 where
+  pub goes_on : may_refuse old.stage ≡ true → is_over new.stage ≡ false
+  pub late : may_refuse old.stage ≡ false → CarriesNoMore old new
+
+-- so it is in the encoder's turn
+abbrev pub PlacesBy : Actor → RunState → RunState → Type 0
+PlacesBy Encoder old new = IsPlaced old new
+PlacesBy _ old new = Unit {0}
 
 -- ## What becomes of full devices
 
@@ -276,25 +305,20 @@ pub record IsSameRun {D : Type 0} (state : D → DeviceState) (old new : Site D)
   pub room : 1 ≤ old.history.spare → 1 ≤ new.history.spare
   pub tells : TellsAlike (states_of state old.bay) (states_of state new.bay)
 
--- the actor is one of a site of so many ranks
-abbrev pub IsActor : ℕ → Actor → Type 0
-IsActor ranks (Rank rank) = rank < ranks
-IsActor ranks _ = Unit {0}
-
 -- ## What becomes of a refusal that a round carries
 
 -- nothing was told, and the round carries the refusal still
-pub record CarriesStill (refusal : Refusal) (new : Core) (before after : List Event) : Type 0 where
+pub record CarriesStill (refusal : Refusal) (new : RunState) (before after : List Event) : Type 0 where
   pub carries : carried new ≡ Some refusal
   pub told : after ≡ before
 
 -- the round was decided by the refusal, which was the one thing told, and none is carried any more
-pub record DecidesBy (refusal : Refusal) (new : Core) (before after : List Event) : Type 0 where
+pub record DecidesBy (refusal : Refusal) (new : RunState) (before after : List Event) : Type 0 where
   pub told : after ≡ before ++ event.Decided kinds.Complete (replies.Refused refusal) ∷ []
   pub none : carried new ≡ None
 
 -- what becomes of a refusal that a round carries: it stays, or the round is decided by it, or the run is over
-abbrev pub BecomesOf : Refusal → Core → List Event → List Event → Type 0
+abbrev pub BecomesOf : Refusal → RunState → List Event → List Event → Type 0
 BecomesOf refusal new before after = CarriesStill refusal new before after ⊎ (DecidesBy refusal new before after ⊎ (is_over new.stage ≡ true))
 
 -- the refusal that a round carries stays until the round is decided by it, or the run is over
@@ -303,25 +327,12 @@ KeepsCarried old new = (refusal : Refusal) → carried old.core ≡ Some refusal
 
 -- ## What a move may do
 
--- every rank has called, rank 0 this, and nothing speaks against it
-pub record IsClearRound (c : Core) (call : Step) : Type 0 where
-  pub complete : is_complete c.ranks ≡ true
-  pub first : first_call c.ranks ≡ Some call
-  pub clear : verdict_of c call ≡ None
-
 -- the round may be decided so: where the site stands for a state, that is a step of the machine, and a dataset stays open in the phase Output alone
 abbrev pub MayDecide : {D : Type 0} → (D → DeviceState) → Site D → Kind → Reply → Phase → Option DataId → ℕ → Type 0
 MayDecide state site kind answer phase offer needs =
     (first : Machine) → Follows state first site
     → ((m : Manifest) → site.core.opened ≡ Some m → phase ≡ Output)
     × ((bytes : Contents) → StepsTo (setup_of site.core) (running bytes site.core) (event.Decided kind answer) (running bytes (decided site.core phase offer needs (map (owed answer) site.core.ranks))))
-
--- every rank has called, rank 0 this, and the round is refused so
-pub record IsRefusedRound (c : Core) (call : Step) (refusal : Refusal) : Type 0 where
-  pub complete : is_complete c.ranks ≡ true
-  pub first : first_call c.ranks ≡ Some call
-  pub verdict : verdict_of c call ≡ Some refusal
-  pub no_fault : is_fault (replies.Refused refusal) ≡ false
 
 -- a rank's step may be told so, with no file changed: where the site stands for a state, that is a step of the machine
 abbrev pub MayTell : {D : Type 0} → (D → DeviceState) → Site D → ℕ → Step → Reply → Type 0
@@ -331,5 +342,5 @@ MayTell state site rank call answer =
     (running (contents_of (cells_of (states_of state site.bay)) site.core) (served site.core site.core.phase site.core.offer (slice_set site.core.ranks rank (stepped seat))))
 
 -- a dataset is being saved, or is about to be, and this comes next on this node
-abbrev pub IsSavingAt : {D : Type 0} → (D → DeviceState) → Site D → Work → ℕ → Type 0
+abbrev pub IsSavingAt : {D : Type 0} → (D → DeviceState) → Site D → SaveStep → ℕ → Type 0
 IsSavingAt state site w node = (first : Machine) → Follows state first site → (m : Manifest) × IsSaving first site.core site.programs (states_of state site.bay) site.history.events w node m

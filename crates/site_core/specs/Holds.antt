@@ -1,29 +1,25 @@
 -- What devices stand for between two runs, and what holds between two moves of a run.
-use Rattle.std.specs.Prelude.{◌≡◌, ◌≢◌, ◌⊎◌, ◌<◌, ◌≤◌, ◌+◌, ◌*◌, ◌^◌, nat_lt, nat_le, not, ◌&&◌, ◌==◌, ℕ, Bool, true, false, IsTrue, List, [], ◌∷◌, ◌++◌, map, fold, replicate, Option, None, Some, slice_get, codes}
+use Rattle.std.specs.Prelude.{◌≡◌, ◌≢◌, ◌⊎◌, ◌<◌, ◌≤◌, ◌+◌, ◌*◌, ◌^◌, nat_lt, nat_le, not, ◌==◌, ℕ, Bool, true, false, IsTrue, List, [], ◌∷◌, ◌++◌, map, replicate, Option, None, Some, slice_get, codes}
 use Rattle.std.specs.List.{list_all, list_any}
 use Rattle.halt_file.specs.Conditions.{conditions}
 use Rattle.scr_base.specs.Sets.{numbers_below}
 use Rattle.scr_base.specs.declared.answers.Phase.TheVariants as phase
 use Rattle.scr_base.specs.declared.content.Step.{Step}
-use Rattle.scr_base.specs.declared.content.Step.TheVariants as step
 use Rattle.node_device.specs.File.{IsAtRest}
 use Rattle.node_device.specs.DeviceState.{DeviceState}
 use Rattle.node_device.specs.Calls.{Crashes}
 use Rattle.gated_record.specs.PairStages.{IsPairStage, PairLeaves, IsOldOrWanted}
 use Rattle.gated_record.specs.declared.pair.PairValue.{PairValue}
-use Rattle.scr_base.specs.declared.answers.Refusal.{Refusal}
-use Rattle.scr_base.specs.declared.answers.Reply.TheVariants as reply
 use Rattle.scr_base.specs.declared.shape.DataId.{DataId}
-use Rattle.ckpt_model.specs.Answers.{is_fault}
 use Rattle.ckpt_model.specs.Dataset.{Dataset}
 use Rattle.ckpt_model.specs.declared.event.Event.TheVariants as event
 use Rattle.ckpt_model.specs.declared.event.StopCause.{StopCause}
 use Rattle.ckpt_model.specs.declared.event.StopCause.TheVariants as stops
-use Rattle.site_core.specs.Calls.{Tells}
+use Rattle.site_calls.specs.Calls.{Tells}
 use Rattle.site_core.specs.Left.{LeavesSaved, NoneSealed, is_sealing_work}
-use Rattle.site_core.specs.Numbers.{IsNumberFile}
-use Rattle.site_core.specs.declared.core_state.Drop.{Drop}
-use Rattle.site_core.specs.declared.core_state.Drop.TheVariants as drop
+use Rattle.site_calls.specs.Numbers.{IsNumberFile}
+use Rattle.site_state.specs.declared.run_state.DropStep.{DropStep}
+use Rattle.site_state.specs.declared.run_state.DropStep.TheVariants as drop
 use Rattle.member_store.specs.Calls.{IsDropStage}
 use Rattle.member_store.specs.Names.{record_name, IsPlace, IsNameOf}
 use Rattle.ckpt_model.specs.Machine.{Machine, Setup, Stage as Place}
@@ -31,20 +27,22 @@ use Rattle.ckpt_model.specs.Legal.{AreOfPrograms, begins_run, is_stop}
 use Rattle.ckpt_model.specs.Runs.{RunsTo}
 use Rattle.ckpt_model.specs.Stops.{Choice, may_choose, after_stop}
 use Rattle.ckpt_model.specs.declared.event.Event.{Event}
-use Rattle.round_core.specs.Seats.{fresh_seat, is_complete, first_call, seat_is_valid}
+use Rattle.round_core.specs.Seats.{fresh_seat}
 use Rattle.site_stands.specs.Described.{is_single}
-use Rattle.site_stands.specs.Site.{IsSafeToStop}
-use Rattle.site_core.specs.declared.cache.Cached.{Cached}
-use Rattle.site_core.specs.declared.cache.Manifest.{Manifest}
-use Rattle.site_core.specs.declared.cache.Mark.TheVariants as mark
-use Rattle.site_core.specs.declared.core_state.Core.{Core}
-use Rattle.site_core.specs.declared.core_state.Stage.{Stage}
-use Rattle.site_core.specs.declared.core_state.Stage.TheVariants as stage
-use Rattle.site_core.specs.declared.core_state.Work.{Work}
-use Rattle.site_core.specs.declared.core_state.Work.TheVariants as work
-use Rattle.site_core.specs.Shown.{running, begun, setup_of, kept_of, mends}
-use Rattle.site_core.specs.Choosing.{verdict_of, AscendFrom, seals, is_being_sealed}
-use Rattle.site_core.specs.Stored.{IsKnown, IsAmong, Cells, cells_of, contents_of, contents_in, file_name, FilesStand, RecordsStand, RecordIs, NoOtherRecords, NoFutureFiles, IsOfSite, IsUnindexed, IsWell, FilesHold, stored_run, stored_halt, run_number}
+use Rattle.site_stands.specs.Site.{IsSafeToStop, SiteStands}
+use Rattle.site_state.specs.declared.cache.Cached.{Cached}
+use Rattle.site_state.specs.declared.cache.Manifest.{Manifest}
+use Rattle.site_state.specs.declared.cache.Mark.TheVariants as mark
+use Rattle.site_state.specs.declared.run_state.RunState.{RunState}
+use Rattle.site_state.specs.declared.run_state.RunStage.{RunStage}
+use Rattle.site_state.specs.declared.run_state.RunStage.TheVariants as stage
+use Rattle.site_state.specs.declared.run_state.SaveStep.{SaveStep}
+use Rattle.site_state.specs.declared.run_state.SaveStep.TheVariants as work
+use Rattle.site_state.specs.Shown.{running, begun, setup_of, kept_of, mends}
+use Rattle.site_state.specs.Choosing.{AscendFrom, seals, is_being_sealed}
+use Rattle.site_calls.specs.Numbers.{run_number}
+use Rattle.site_core.specs.Stored.{IsKnown, IsAmong, Cells, cells_of, contents_of, contents_in, file_name, FilesStand, RecordsStand, RecordIs, NoOtherRecords, NoFutureFiles, IsOfSite, IsUnindexed, IsWell, FilesHold, stored_run, stored_halt}
+use Rattle.site_state.specs.Asked.{IsSaveRound, IsDropFor}
 
 -- ## Between two runs
 
@@ -87,7 +85,7 @@ pub record CanBegin (s : Setup) (states : ℕ → DeviceState) (m : Machine) : T
 -- ## Within a run
 
 -- no call was made in this run
-pub record IsFresh (c : Core) : Type 0 where
+pub record IsFresh (c : RunState) : Type 0 where
   pub single : is_single c.config.scheme ≡ true
   pub places : c.places ≡ numbers_below c.shape.nodes
   pub phase_is : c.phase ≡ phase.Idle
@@ -99,12 +97,12 @@ pub record IsFresh (c : Core) : Type 0 where
   pub reading : c.reading ≡ None
 
 -- nothing was done
-pub record IsBegun (c : Core) (states : ℕ → DeviceState) (m : Machine) : Type 0 where
+pub record IsBegun (c : RunState) (states : ℕ → DeviceState) (m : Machine) : Type 0 where
   pub fresh : IsFresh c
   pub begins : CanBegin (setup_of c) states m
 
 -- the number of the run is on its way; all else is as it was
-pub record IsStoring (c : Core) (states : ℕ → DeviceState) (m : Machine) : Type 0 where
+pub record IsStoring (c : RunState) (states : ℕ → DeviceState) (m : Machine) : Type 0 where
   pub fresh : IsFresh c
   pub sets : List Manifest
   pub old : Option PairValue
@@ -130,7 +128,7 @@ pub record IsStoring (c : Core) (states : ℕ → DeviceState) (m : Machine) : T
   pub fits : c.run < 2 ^ 32
 
 -- the number is stored
-pub record IsLooking (c : Core) (states : ℕ → DeviceState) (m : Machine) : Type 0 where
+pub record IsLooking (c : RunState) (states : ℕ → DeviceState) (m : Machine) : Type 0 where
   pub fresh : IsFresh c
   pub sets : List Manifest
   pub next : ℕ
@@ -142,34 +140,26 @@ pub record IsLooking (c : Core) (states : ℕ → DeviceState) (m : Machine) : T
   pub future : NoFutureFiles (cells_of states) c.run 0
   pub is : m ≡ begun c next (map (kept_of (setup_of c) (contents_of (cells_of states) c) c.places) (map settled_set sets))
 
--- the round that saves the open dataset
-pub record IsSaveRound (c : Core) : Type 0 where
-  pub complete : is_complete c.ranks ≡ true
-  pub valid : Bool
-  pub first : first_call c.ranks ≡ Some (step.Complete valid)
-  pub clear : verdict_of c (step.Complete valid) ≡ None
-  pub all : list_all seat_is_valid c.ranks ≡ true
-
 -- how far a node's record has come
-abbrev pub is_written_at : Work → ℕ → ℕ → Bool
+abbrev pub is_written_at : SaveStep → ℕ → ℕ → Bool
 is_written_at work.Record n i = nat_lt i n
 is_written_at work.RecordSync n i = nat_le i n
 is_written_at _ n i = true
 
-abbrev pub is_whole_at : Work → ℕ → ℕ → Bool
+abbrev pub is_whole_at : SaveStep → ℕ → ℕ → Bool
 is_whole_at work.Record n i = false
 is_whole_at work.RecordSync n i = false
 is_whole_at work.Whole n i = nat_lt i n
 is_whole_at work.WholeSync n i = nat_le i n
 is_whole_at _ n i = true
 
-abbrev pub is_sealed_at : Work → ℕ → ℕ → Bool
+abbrev pub is_sealed_at : SaveStep → ℕ → ℕ → Bool
 is_sealed_at work.Sealed n i = nat_lt i n
 is_sealed_at work.SealedSync n i = nat_le i n
 is_sealed_at _ n i = false
 
 -- what is pending on a node: while records are written the files and the record, then the gate that was turned
-abbrev pub is_pending_at : Work → ℕ → ℕ → Bool
+abbrev pub is_pending_at : SaveStep → ℕ → ℕ → Bool
 is_pending_at work.Record n i = nat_le n i
 is_pending_at work.RecordSync n i = nat_le n i
 is_pending_at work.Whole n i = false
@@ -183,7 +173,7 @@ RecordAt true o m node whole sealed = RecordIs o m node whole sealed
 RecordAt false o m node whole sealed = o ≡ None
 
 -- the records of the dataset that is being saved
-pub record SavesAt (w : Work) (n : ℕ) (c : Core) (m : Manifest) (states : ℕ → DeviceState) : Type 0 where
+pub record SavesAt (w : SaveStep) (n : ℕ) (c : RunState) (m : Manifest) (states : ℕ → DeviceState) : Type 0 where
   pub round : IsSaveRound c
   pub below : n < c.shape.nodes
   pub open_yet : is_sealing_work w ≡ false → c.opened ≡ Some m
@@ -195,32 +185,32 @@ pub record SavesAt (w : Work) (n : ℕ) (c : Core) (m : Manifest) (states : ℕ 
   pub leaves : LeavesSaved w n c.places c.opened m states
 
 -- the dataset that is being saved: before its sealing it is the open one, and then the last in cache
-abbrev pub IsSaved : Work → ℕ → Core → Manifest → Type 0
+abbrev pub IsSaved : SaveStep → ℕ → RunState → Manifest → Type 0
 IsSaved w n c m = (c.opened ≡ Some m) ⊎ ((c.opened ≡ None) × ((x : Cached) × (i : ℕ) × (slice_get c.kept i ≡ Some x) × (x.manifest ≡ m) × (x.mark ≡ mark.Sealing)))
 
 -- a file of the dataset
-abbrev pub IsFileOf : Core → Manifest → List ℕ → Type 0
+abbrev pub IsFileOf : RunState → Manifest → List ℕ → Type 0
 IsFileOf c m q = (rank : ℕ) × (j : ℕ) × (rank < 2 ^ 8) × (j < 2 ^ 8) × (q ≡ file_name m.desc.which c.shape.ranks rank j)
 
 -- on a node, the file belongs to what isn't stable yet: a file of the open dataset, or of the one that is being saved, or its record
-abbrev pub IsPending : Stage → Core → List ℕ → Type 0
+abbrev pub IsPending : RunStage → RunState → List ℕ → Type 0
 IsPending (stage.Saving w n) c q = (m : Manifest) × IsSaved w n c m × (IsFileOf c m q ⊎ ((node : ℕ) × (node < 2 ^ 8) × (q ≡ record_name m.desc.which node)))
 IsPending _ c q = (m : Manifest) × (c.opened ≡ Some m) × IsFileOf c m q
 
 -- what the encoder and the recoverer count on
-abbrev pub WorkIs : Stage → Core → (ℕ → DeviceState) → Type 0
+abbrev pub WorkIs : RunStage → RunState → (ℕ → DeviceState) → Type 0
 WorkIs stage.Mending c states = (c.opened ≡ None) × (list_any seals c.kept ≡ false)
 WorkIs stage.Serving c states = (list_any mends c.kept ≡ false) × (list_any seals c.kept ≡ false)
 WorkIs (stage.Saving w n) c states = (m : Manifest) × IsSaved w n c m × SavesAt w n c m states × (list_any mends c.kept ≡ false)
 WorkIs _ c states = Unit {0}
 
 -- of the open dataset no record is there while its ranks write
-abbrev pub NoRecordYet : Stage → Core → Cells → Type 0
+abbrev pub NoRecordYet : RunStage → RunState → Cells → Type 0
 NoRecordYet (stage.Saving w n) c cells = Unit {0}
 NoRecordYet _ c cells = (m : Manifest) → c.opened ≡ Some m → (p node : ℕ) → p < 32 → IsPlace m.desc.which node → cells p (record_name m.desc.which node) ≡ None
 
 -- recovery has looked
-pub record IsUp (c : Core) (states : ℕ → DeviceState) (m : Machine) : Type 0 where
+pub record IsUp (c : RunState) (states : ℕ → DeviceState) (m : Machine) : Type 0 where
   pub is : m ≡ running (contents_of (cells_of states) c) c
   pub well : IsWell c
   pub files : FilesHold c (cells_of states)
@@ -230,37 +220,13 @@ pub record IsUp (c : Core) (states : ℕ → DeviceState) (m : Machine) : Type 0
 
 -- ## A dataset on its way out
 
--- the ranks ask for the open dataset to be completed, not all of them say valid, and nothing speaks against the round
-pub record IsDropRound (c : Core) (which : DataId) : Type 0 where
-  pub set : Manifest
-  pub opened : c.opened ≡ Some set
-  pub which_is : which ≡ set.desc.which
-  pub complete : is_complete c.ranks ≡ true
-  pub valid : Bool
-  pub first : first_call c.ranks ≡ Some (step.Complete valid)
-  pub clear : verdict_of c (step.Complete valid) ≡ None
-  pub some : list_all seat_is_valid c.ranks ≡ false
-
--- why it goes: a rank doesn't say valid, or a device refuses the round
-abbrev pub IsDropCause : Core → Option Refusal → Type 0
-IsDropCause c None = list_all seat_is_valid c.ranks ≡ false
-IsDropCause c (Some refusal) = (is_fault (reply.Refused refusal) ≡ true) × (list_all seat_is_valid c.ranks ≡ true)
-
--- the round for which it goes
-pub record IsDropFor (c : Core) : Type 0 where
-  pub complete : is_complete c.ranks ≡ true
-  pub valid : Bool
-  pub first : first_call c.ranks ≡ Some (step.Complete valid)
-  pub clear : verdict_of c (step.Complete valid) ≡ None
-  pub why : IsDropCause c c.refusal
-
 -- a file of one of the dataset's members
 abbrev pub IsOfDataset : DataId → List ℕ → Type 0
 IsOfDataset which q = (node : ℕ) × (node < 2 ^ 8) × IsNameOf which node q
 
 -- The open dataset is on its way out: on some nodes its record is gone, and on some of these that is stable; a stop leaves no record
 -- of it sealed. Of the machine's open dataset nothing is said.
-pub record IsLeavingAt (gone settled : ℕ → Bool) (c : Core) (states : ℕ → DeviceState) (m : Machine) : Type 0 where
+pub record IsLeavingAt (gone settled : ℕ → Bool) (c : RunState) (states : ℕ → DeviceState) (m : Machine) : Type 0 where
   pub set : Manifest
   pub opened : c.opened ≡ Some set
   pub dataset : Dataset
@@ -281,28 +247,28 @@ pub record IsLeavingAt (gone settled : ℕ → Bool) (c : Core) (states : ℕ �
   pub quiet : (p : ℕ) (q : List ℕ) → p ≤ 32 → (p < c.shape.nodes → settled p ≡ false → IsOfDataset set.desc.which q → ⊥) → IsAtRest ((states p).file q)
 
 -- the node's files are gone
-abbrev pub is_gone_at : Drop → ℕ → ℕ → Bool
+abbrev pub is_gone_at : DropStep → ℕ → ℕ → Bool
 is_gone_at drop.File n node = nat_lt node n
 is_gone_at drop.Sync n node = nat_le node n
 
 -- what the evictor counts on
-abbrev pub RemovalIs : Drop → ℕ → Core → DataId → (ℕ → DeviceState) → Type 0
+abbrev pub RemovalIs : DropStep → ℕ → RunState → DataId → (ℕ → DeviceState) → Type 0
 RemovalIs drop.File n c which states = (c.removal.node ≡ n) × IsDropStage which n (states n) c.removal.changes
 RemovalIs drop.Sync n c which states = Unit {0}
 
 -- the files on this node are being removed, and those before it are gone
-pub record IsDropping (d : Drop) (n : ℕ) (c : Core) (states : ℕ → DeviceState) (m : Machine) : Type 0 where
+pub record IsDropping (d : DropStep) (n : ℕ) (c : RunState) (states : ℕ → DeviceState) (m : Machine) : Type 0 where
   pub leaves : IsLeavingAt (is_gone_at d n) (λ node. nat_lt node n) c states m
   pub below : n < c.shape.nodes
   pub which_is : c.removal.which ≡ leaves.set.desc.which
   pub work : RemovalIs d n c leaves.set.desc.which states
 
 -- its files are gone everywhere, and that is stable
-abbrev pub IsDropped : Core → (ℕ → DeviceState) → Machine → Type 0
+abbrev pub IsDropped : RunState → (ℕ → DeviceState) → Machine → Type 0
 IsDropped = IsLeavingAt (λ node. true) (λ node. true)
 
 -- what holds at a stage
-abbrev pub HoldsAt : Stage → Core → (ℕ → DeviceState) → Machine → Type 0
+abbrev pub HoldsAt : RunStage → RunState → (ℕ → DeviceState) → Machine → Type 0
 HoldsAt stage.Begun c states m = IsBegun c states m
 HoldsAt stage.Storing c states m = IsStoring c states m
 HoldsAt stage.Looking c states m = IsLooking c states m
@@ -325,7 +291,7 @@ goes_well stops.Script = false
 goes_well _ = true
 
 -- the events are those of the run, as far as it has come
-abbrev pub ToldAt : Stage → List ℕ → List (List Step) → List Event → Type 0
+abbrev pub ToldAt : RunStage → List ℕ → List (List Step) → List Event → Type 0
 ToldAt stage.Begun places programs events = events ≡ []
 ToldAt stage.Storing places programs events = events ≡ []
 ToldAt stage.Over places programs events = Unit {0}
@@ -339,6 +305,13 @@ pub record IsStopOf (states left : ℕ → DeviceState) : Type 0 where
 -- whatever a stop by this cause leaves, a run can begin over it again
 abbrev pub LetsBegin : Setup → (ℕ → DeviceState) → StopCause → Machine → Type 0
 LetsBegin s states why m = (c : Choice) → IsTrue (may_choose s m why c) → (left : ℕ → DeviceState) → IsStopOf states left → CanBegin s left (after_stop s m c)
+
+-- How a run stands that isn't over: its events lead to a state for which the devices stand, and a stop from outside is safe there.
+pub record IsUnderWay (s : Setup) (states : ℕ → DeviceState) (first : Machine) (events : List Event) : Type 0 where
+  pub state : Machine
+  pub run : RunsTo s first events state
+  pub stands : SiteStands s states state
+  pub safe : IsSafeToStop s states stops.Script state
 
 -- How a run is closed. Its events lead, by steps of the machine, to a state before its Stop, and a stop by that cause is safe there: whatever
 -- it leaves stands for a state after it. Where the run ended by itself, a run can begin over that again.
@@ -355,12 +328,12 @@ pub record Closes (s : Setup) (states : ℕ → DeviceState) (first : Machine) (
   pub goes_on : IsTrue (list_all (λ e. not (is_stop e)) front)
 
 -- once it is over
-abbrev pub ClosesAt : Stage → Setup → Machine → List ℕ → List (List Step) → (ℕ → DeviceState) → List Event → Type 0
+abbrev pub ClosesAt : RunStage → Setup → Machine → List ℕ → List (List Step) → (ℕ → DeviceState) → List Event → Type 0
 ClosesAt stage.Over s first places programs states events = Closes s states first places programs events
 ClosesAt _ s first places programs states events = Unit {0}
 
 -- the history leads from a state to one for which the run's memory and files stand
-pub record Leads (first : Machine) (c : Core) (programs : List (List Step)) (states : ℕ → DeviceState) (events : List Event) : Type 0 where
+pub record Leads (first : Machine) (c : RunState) (programs : List (List Step)) (states : ℕ → DeviceState) (events : List Event) : Type 0 where
   pub state : Machine
   pub run : RunsTo (setup_of c) first events state
   pub holds : HoldsAt c.stage c states state
@@ -368,7 +341,7 @@ pub record Leads (first : Machine) (c : Core) (programs : List (List Step)) (sta
   pub closes : ClosesAt c.stage (setup_of c) first c.places programs states events
 
 -- what is known of a run while a dataset is being saved
-pub record IsSaving (first : Machine) (c : Core) (programs : List (List Step)) (states : ℕ → DeviceState) (events : List Event) (w : Work) (n : ℕ) (m : Manifest) : Type 0 where
+pub record IsSaving (first : Machine) (c : RunState) (programs : List (List Step)) (states : ℕ → DeviceState) (events : List Event) (w : SaveStep) (n : ℕ) (m : Manifest) : Type 0 where
   pub run : RunsTo (setup_of c) first events (running (contents_of (cells_of states) c) c)
   pub so_far : IsSoFar c.places programs events
   pub well : IsWell c

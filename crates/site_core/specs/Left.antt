@@ -17,31 +17,32 @@ use Rattle.member_store.specs.Members.{member_body}
 use Rattle.ckpt_model.specs.Machine.{Machine, Setup, Pending}
 use Rattle.ckpt_model.specs.Stops.{may_store, pending_of}
 use Rattle.site_stands.specs.Entry.{entry_name, ReadsEntry, mark_in}
-use Rattle.site_core.specs.declared.cache.Cached.{Cached}
-use Rattle.site_core.specs.declared.cache.Manifest.{Manifest}
-use Rattle.site_core.specs.declared.core_state.Work.{Work}
-use Rattle.site_core.specs.declared.core_state.Work.TheVariants as work
-use Rattle.site_core.specs.Choosing.{AscendFrom}
-use Rattle.site_core.specs.Shown.{kept_of, is_doubtful}
-use Rattle.site_core.specs.Stored.{cells_of, contents_in, place_of_rank, file_name, run_number, FileStands, IsOfSite}
+use Rattle.site_state.specs.declared.cache.Cached.{Cached}
+use Rattle.site_state.specs.declared.cache.Manifest.{Manifest}
+use Rattle.site_state.specs.declared.run_state.SaveStep.{SaveStep}
+use Rattle.site_state.specs.declared.run_state.SaveStep.TheVariants as work
+use Rattle.site_state.specs.Choosing.{AscendFrom}
+use Rattle.site_state.specs.Shown.{kept_of, is_doubtful}
+use Rattle.site_calls.specs.Numbers.{run_number}
+use Rattle.site_core.specs.Stored.{cells_of, contents_in, place_of_rank, file_name, FileStands, IsOfSite}
 
 -- ## A dataset that is being saved
 
 -- a node's files may be pending: until its record is stable
-abbrev pub is_filling_at : Work → ℕ → ℕ → Bool
+abbrev pub is_filling_at : SaveStep → ℕ → ℕ → Bool
 is_filling_at work.Record n i = nat_le n i
 is_filling_at work.RecordSync n i = nat_le n i
 is_filling_at _ n i = false
 
 -- gates `sealed` are being opened
-abbrev pub is_sealing_work : Work → Bool
+abbrev pub is_sealing_work : SaveStep → Bool
 is_sealing_work work.Sealed = true
 is_sealing_work work.SealedSync = true
 is_sealing_work _ = false
 
 -- While the dataset is open a stop leaves no record of it sealed; once gates `sealed` are to be opened it leaves each record whole. When
 -- a node's record is stable, nothing but records is pending there; and no record is but at home.
-pub record LeavesSaved (w : Work) (n : ℕ) (places : List ℕ) (opened : Option Manifest) (m : Manifest) (states : ℕ → DeviceState) : Type 0 where
+pub record LeavesSaved (w : SaveStep) (n : ℕ) (places : List ℕ) (opened : Option Manifest) (m : Manifest) (states : ℕ → DeviceState) : Type 0 where
   pub elsewhere : (p node : ℕ) → p < 32 → IsPlace m.desc.which node → (slice_get places node ≡ Some p → ⊥) → IsAtRest ((states p).file (record_name m.desc.which node))
   pub parts : (node p : ℕ) (q : List ℕ) → slice_get places node ≡ Some p → is_filling_at w n node ≡ false → q ≢ record_name m.desc.which node → IsAtRest ((states p).file q)
   pub unsealed : opened ≡ Some m → (node p : ℕ) → slice_get places node ≡ Some p → StaysShut ((states p).file (record_name m.desc.which node)) 1

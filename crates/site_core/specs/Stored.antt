@@ -12,7 +12,6 @@ use Rattle.node_device.specs.File.{bytes_of}
 use Rattle.node_device.specs.DeviceState.{DeviceState}
 use Rattle.gated_record.specs.Record.{HasBody, is_open}
 use Rattle.gated_record.specs.Pair.{pair_value}
-use Rattle.gated_record.specs.declared.pair.PairValue.{PairValue}
 use Rattle.filemap.specs.Maps.{IsMap, rows_of}
 use Rattle.filemap.specs.declared.rows.FileRow.{FileRow}
 use Rattle.member_store.specs.Names.{record_name, part_name, IsPlace}
@@ -20,11 +19,12 @@ use Rattle.member_store.specs.Members.{member_body}
 use Rattle.member_store.specs.declared.part.Part.TheVariants.{File}
 use Rattle.site_stands.specs.Described.{is_single}
 use Rattle.site_stands.specs.Entry.{entry_name, ReadsEntry, mark_in}
-use Rattle.site_core.specs.declared.cache.Cached.{Cached}
-use Rattle.site_core.specs.declared.cache.Manifest.{Manifest}
-use Rattle.site_core.specs.declared.core_state.Core.{Core}
-use Rattle.site_core.specs.Shown.{Contents}
-use Rattle.site_core.specs.Choosing.{AscendFrom, AreBelow, is_being_sealed}
+use Rattle.site_state.specs.declared.cache.Cached.{Cached}
+use Rattle.site_state.specs.declared.cache.Manifest.{Manifest}
+use Rattle.site_state.specs.declared.run_state.RunState.{RunState}
+use Rattle.site_calls.specs.Numbers.{run_number}
+use Rattle.site_state.specs.Shown.{Contents}
+use Rattle.site_state.specs.Choosing.{AscendFrom, AreBelow, is_being_sealed}
 
 -- what reads give, by place and name
 abbrev pub Cells : Type 0
@@ -50,7 +50,7 @@ abbrev pub contents_in : Cells → List ℕ → ℕ → Contents
 contents_in cells places ranks = λ which rank j. if is_named which rank j then bytes_of (cells (place_of_rank places ranks rank) (file_name which ranks rank j)) else []
 
 -- the bytes of the files of a run
-abbrev pub contents_of : Cells → Core → Contents
+abbrev pub contents_of : Cells → RunState → Contents
 contents_of cells c = contents_in cells c.places c.shape.ranks
 
 -- the file is there, with as many bytes as its row says
@@ -79,7 +79,7 @@ abbrev pub IsAmong : List Cached → Manifest → Type 0
 IsAmong sets m = (i : ℕ) × (x : Cached) × (slice_get sets i ≡ Some x) × (x.manifest ≡ m)
 
 -- the run knows the dataset: it is in cache, or being written
-abbrev pub IsKnown : Core → Manifest → Type 0
+abbrev pub IsKnown : RunState → Manifest → Type 0
 IsKnown c m = (c.opened ≡ Some m) ⊎ IsAmong c.kept m
 
 -- no record is there but those of these datasets, at home
@@ -100,11 +100,6 @@ NoFutureFiles cells run next =
 abbrev pub NoMoreFiles : Cells → List ℕ → ℕ → Manifest → Type 0
 NoMoreFiles cells places ranks m =
     (rank j : ℕ) → rank < length m.files → j < 2 ^ 8 → length (rows_of m.files rank) ≤ j → cells (place_of_rank places ranks rank) (file_name m.desc.which ranks rank j) ≡ None
-
--- the number of the last run, 0 for none
-abbrev pub run_number : Option PairValue → ℕ
-run_number None = 0
-run_number (Some value) = value.version
 
 abbrev pub stored_run : Cells → ℕ
 stored_run cells = run_number (pair_value (codes "run") (cells 32))
@@ -128,7 +123,7 @@ pub record IsOfSite (shape : Shape) (run : ℕ) (m : Manifest) : Type 0 where
   pub single : is_single m.desc.scheme ≡ true
 
 -- what a run's memory keeps
-pub record IsWell (c : Core) : Type 0 where
+pub record IsWell (c : RunState) : Type 0 where
   pub places : c.places ≡ numbers_below c.shape.nodes
   pub rise : AscendFrom 1 c.kept
   pub below : AreBelow c.next c.kept
@@ -141,7 +136,7 @@ pub record IsWell (c : Core) : Type 0 where
   pub single : is_single c.config.scheme ≡ true
 
 -- the files of a run that is up, by what reads give; of what is being sealed the records are spoken of elsewhere
-pub record FilesHold (c : Core) (cells : Cells) : Type 0 where
+pub record FilesHold (c : RunState) (cells : Cells) : Type 0 where
   pub stored : stored_run cells ≡ c.run
   pub halted : stored_halt cells ≡ conditions c.halt
   pub unindexed : IsUnindexed (cells 32)

@@ -4,23 +4,20 @@ ghost use Rattle.node_device.specs.Rack.{states_of};
 ghost use Rattle.scr_base.specs.declared.content.Step.TheVariants as step;
 ghost use Rattle.round_core.specs.declared.seat.Seat.{Seat};
 ghost use Rattle.round_core.specs.Seats.{next_number, is_missing};
-ghost use Rattle.site_core.specs.Waiting.{changes_left, rank_turn, serving_turn, round_turn, free_turn};
+ghost use Rattle.site_state.specs.Waiting.{changes_left, rank_turn, serving_turn, round_turn, free_turn};
 ghost use Rattle.site_core.specs.Ahead.{Lowers};
 ghost use Rattle.site_core.specs.Order.{KeepsOrder};
-ghost use Rattle.site_core.specs.Follows.{Keeps, TellsBy, TellsRound, TellsEachFull, IsSameRun, Stays, TellsFaults, KeepsCarried};
+ghost use Rattle.site_core.specs.Follows.{IsAsBefore, Keeps, TellsBy, TellsRound, TellsEachFull, IsSameRun, Stays, TellsFaults, KeepsCarried};
 ghost use Rattle.scr_base.specs.declared.actor.Actor.TheVariants as actor;
-ghost use Rattle.site_core.specs.Steps.{IsFreeSeat, IsNextCall};
-ghost use Rattle.site_core.specs.Causes.{IsCalm};
+ghost use Rattle.site_state.specs.Steps.{IsFreeSeat, IsNextCall};
 
-use crate::core_state::{Stage, Work};
-use crate::error::SiteError;
 use crate::events::push;
 use crate::site::Site;
-use crate::turn::{Turn, Why};
 use ckpt_model::Event;
 use node_device::Device;
 use round_core::{Doing, Seat, is_local_step};
 use scr_base::{Copies, Step};
+use site_state::{RunStage, SaveStep, SiteError, Turn, Why};
 
 impl<D: Device> Site<D> {
     /// A rank's turn.
@@ -31,8 +28,7 @@ impl<D: Device> Site<D> {
         ensures order { OnOk result (KeepsOrder self.old self.new) }
         ensures told { OnOk result (TellsBy (actor.Rank rank) D.state self.old self.new) }
         ensures full { OnOk result (TellsEachFull (actor.Rank rank) D.state self.old self.new) }
-        ensures refused { OnErr result (self.new.history.events ≡ self.old.history.events) }
-        ensures calm { OnErr result (IsCalm (states_of D.state self.old.bay) (states_of D.state self.new.bay)) }
+        ensures spared { OnErr result (IsAsBefore D.state self.old self.new) }
         ensures accounted { OnOk result (TellsFaults D.state self.old self.new) }
         ensures kept { OnOk result (KeepsCarried self.old self.new) }
         ensures fixed { IsSameRun D.state self.old self.new }
@@ -40,33 +36,32 @@ impl<D: Device> Site<D> {
         ensures waits { IfOk result (λ turn. turn ≡ rank_turn self.old.core.stage self.old.core self.old.programs rank) }
     {
         match self.core.stage {
-            Stage::Serving => self.serve(rank),
-            Stage::Saving { work, node } => Ok(Turn::NotYet {
+            RunStage::Serving => self.serve(rank),
+            RunStage::Saving { work, node } => Ok(Turn::NotYet {
                 why: Why::Encode {
                     left: changes_left(work, node, self.core.shape.nodes),
                 },
             }),
-            Stage::Dropping { .. } => Ok(Turn::NotYet {
+            RunStage::Dropping { .. } => Ok(Turn::NotYet {
                 why: Why::Evict {
                     id: self.core.removal.id(),
                 },
             }),
-            Stage::Dropped => self.decide_dropped(),
-            Stage::Over => Ok(Turn::Ended),
+            RunStage::Dropped => self.decide_dropped(),
+            RunStage::Over => Ok(Turn::Ended),
             _ => Ok(Turn::NotYet { why: Why::Recover }),
         }
     }
 
     /// A rank that waits has its round decided; a rank that is free takes its next step.
     fn serve(&mut self, rank: u8) -> Result<Turn, SiteError>
-        requires stage { self.old.core.stage ≡ Stage.Serving }
+        requires stage { self.old.core.stage ≡ RunStage.Serving }
         ensures run { OnOk result (Keeps D.state self.old self.new) }
         ensures lowers { IfOk result (λ turn. Lowers turn self.old self.new) }
         ensures order { OnOk result (KeepsOrder self.old self.new) }
         ensures told { OnOk result (TellsBy (actor.Rank rank) D.state self.old self.new) }
         ensures full { OnOk result (TellsEachFull (actor.Rank rank) D.state self.old self.new) }
-        ensures refused { OnErr result (self.new.history.events ≡ self.old.history.events) }
-        ensures calm { OnErr result (IsCalm (states_of D.state self.old.bay) (states_of D.state self.new.bay)) }
+        ensures spared { OnErr result (IsAsBefore D.state self.old self.new) }
         ensures accounted { OnOk result (TellsFaults D.state self.old self.new) }
         ensures fixed { IsSameRun D.state self.old self.new }
         ensures still { IfOk result (λ turn. Stays turn self.old self.new) }
@@ -84,13 +79,12 @@ impl<D: Device> Site<D> {
 
     /// The round is decided once every rank has called.
     fn wait(&mut self) -> Result<Turn, SiteError>
-        requires stage { self.old.core.stage ≡ Stage.Serving }
+        requires stage { self.old.core.stage ≡ RunStage.Serving }
         ensures run { OnOk result (Keeps D.state self.old self.new) }
         ensures lowers { IfOk result (λ turn. Lowers turn self.old self.new) }
         ensures order { OnOk result (KeepsOrder self.old self.new) }
         ensures told { OnOk result (TellsRound D.state self.old self.new) }
-        ensures refused { OnErr result (self.new.history.events ≡ self.old.history.events) }
-        ensures calm { OnErr result (IsCalm (states_of D.state self.old.bay) (states_of D.state self.new.bay)) }
+        ensures spared { OnErr result (IsAsBefore D.state self.old self.new) }
         ensures accounted { OnOk result (TellsFaults D.state self.old self.new) }
         ensures fixed { IsSameRun D.state self.old self.new }
         ensures still { IfOk result (λ turn. Stays turn self.old self.new) }
@@ -106,13 +100,12 @@ impl<D: Device> Site<D> {
 
     /// The rank takes its reply.
     fn reply(&mut self, rank: u8) -> Result<Turn, SiteError>
-        requires stage { self.old.core.stage ≡ Stage.Serving }
+        requires stage { self.old.core.stage ≡ RunStage.Serving }
         ensures run { OnOk result (Keeps D.state self.old self.new) }
         ensures lowers { IfOk result (λ turn. Lowers turn self.old self.new) }
         ensures order { OnOk result (KeepsOrder self.old self.new) }
         ensures told { OnOk result (TellsBy (actor.Rank rank) D.state self.old self.new) }
-        ensures refused { OnErr result (self.new.history.events ≡ self.old.history.events) }
-        ensures calm { OnErr result (IsCalm (states_of D.state self.old.bay) (states_of D.state self.new.bay)) }
+        ensures spared { OnErr result (IsAsBefore D.state self.old self.new) }
         ensures accounted { OnOk result (TellsFaults D.state self.old self.new) }
         ensures fixed { IsSameRun D.state self.old self.new }
         ensures still { IfOk result (λ turn. Stays turn self.old self.new) }
@@ -126,25 +119,27 @@ impl<D: Device> Site<D> {
         let Some(answer) = self.core.ranks.take_reply(rank) else {
             return Err(SiteError::Memory);
         };
-        self.history.push(Event::Reply {
+        let Ok(()) = self.history.push(Event::Reply {
             rank,
             number,
             answer,
-        })?;
+        })
+        else {
+            unreachable!()
+        };
         Ok(Turn::Moved)
     }
 
     /// A free rank takes its next step.
     fn go_on(&mut self, rank: u8) -> Result<Turn, SiteError>
-        requires stage { self.old.core.stage ≡ Stage.Serving }
+        requires stage { self.old.core.stage ≡ RunStage.Serving }
         requires free { IsFreeSeat self.old.core rank }
         ensures run { OnOk result (Keeps D.state self.old self.new) }
         ensures lowers { IfOk result (λ turn. Lowers turn self.old self.new) }
         ensures order { OnOk result (KeepsOrder self.old self.new) }
         ensures told { OnOk result (TellsBy (actor.Rank rank) D.state self.old self.new) }
         ensures full { OnOk result (TellsEachFull (actor.Rank rank) D.state self.old self.new) }
-        ensures refused { OnErr result (self.new.history.events ≡ self.old.history.events) }
-        ensures calm { OnErr result (IsCalm (states_of D.state self.old.bay) (states_of D.state self.new.bay)) }
+        ensures spared { OnErr result (IsAsBefore D.state self.old self.new) }
         ensures accounted { OnOk result (TellsFaults D.state self.old self.new) }
         ensures fixed { IsSameRun D.state self.old self.new }
         ensures still { IfOk result (λ turn. Stays turn self.old self.new) }
@@ -172,14 +167,13 @@ impl<D: Device> Site<D> {
 
     /// A rank whose End was refused calls it again.
     fn end_again(&mut self, rank: u8) -> Result<Turn, SiteError>
-        requires stage { self.old.core.stage ≡ Stage.Serving }
+        requires stage { self.old.core.stage ≡ RunStage.Serving }
         requires free { IsFreeSeat self.old.core rank }
         ensures run { OnOk result (Keeps D.state self.old self.new) }
         ensures lowers { IfOk result (λ turn. Lowers turn self.old self.new) }
         ensures order { OnOk result (KeepsOrder self.old self.new) }
         ensures told { OnOk result (TellsBy (actor.Rank rank) D.state self.old self.new) }
-        ensures refused { OnErr result (self.new.history.events ≡ self.old.history.events) }
-        ensures calm { OnErr result (IsCalm (states_of D.state self.old.bay) (states_of D.state self.new.bay)) }
+        ensures spared { OnErr result (IsAsBefore D.state self.old self.new) }
         ensures accounted { OnOk result (TellsFaults D.state self.old self.new) }
         ensures fixed { IsSameRun D.state self.old self.new }
         ensures still { IfOk result (λ turn. Stays turn self.old self.new) }
@@ -199,14 +193,13 @@ impl<D: Device> Site<D> {
 
     /// The rank calls, and waits.
     fn call(&mut self, rank: u8, step: Step) -> Result<Turn, SiteError>
-        requires stage { self.old.core.stage ≡ Stage.Serving }
+        requires stage { self.old.core.stage ≡ RunStage.Serving }
         requires next { IsNextCall self.old.programs self.old.core rank step }
         ensures run { OnOk result (Keeps D.state self.old self.new) }
         ensures lowers { IfOk result (λ turn. Lowers turn self.old self.new) }
         ensures order { OnOk result (KeepsOrder self.old self.new) }
         ensures told { OnOk result (TellsBy (actor.Rank rank) D.state self.old self.new) }
-        ensures refused { OnErr result (self.new.history.events ≡ self.old.history.events) }
-        ensures calm { OnErr result (IsCalm (states_of D.state self.old.bay) (states_of D.state self.new.bay)) }
+        ensures spared { OnErr result (IsAsBefore D.state self.old self.new) }
         ensures accounted { OnOk result (TellsFaults D.state self.old self.new) }
         ensures fixed { IsSameRun D.state self.old self.new }
         ensures still { IfOk result (λ turn. Stays turn self.old self.new) }
@@ -243,16 +236,16 @@ fn number_after(seat: &Seat) -> u32
 }
 
 /// How many syncs and gate writes are left until a dataset is settled on so many nodes.
-pub(crate) fn changes_left(work: Work, node: u8, nodes: u8) -> u32
+pub(crate) fn changes_left(work: SaveStep, node: u8, nodes: u8) -> u32
     ensures { result ≡ changes_left work node nodes }
 {
     let after = u32::from(nodes.saturating_sub(node));
     let all = 2 * u32::from(nodes);
     match work {
-        Work::Record | Work::RecordSync => after + 2 * all,
-        Work::Whole => 2 * after + all,
-        Work::WholeSync => (2 * after + all).saturating_sub(1),
-        Work::Sealed => 2 * after,
-        Work::SealedSync => (2 * after).saturating_sub(1),
+        SaveStep::Record | SaveStep::RecordSync => after + 2 * all,
+        SaveStep::Whole => 2 * after + all,
+        SaveStep::WholeSync => (2 * after + all).saturating_sub(1),
+        SaveStep::Sealed => 2 * after,
+        SaveStep::SealedSync => (2 * after).saturating_sub(1),
     }
 }

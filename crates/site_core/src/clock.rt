@@ -1,19 +1,17 @@
 // The clock's readings, which a round of Need or Exit needs.
-ghost use Rattle.std.specs.Prelude.{◌≡◌, ◌<◌, ◌+◌, ◌++◌, ◌∷◌, [], true, Some, OnOk, OnErr};
-ghost use Rattle.ckpt_model.specs.declared.event.Event.TheVariants as event;
+ghost use Rattle.std.specs.Prelude.{◌≡◌, ◌<◌, ◌+◌, true, Some, OnOk, OnErr};
 ghost use Rattle.scr_base.specs.Calls.{asks_time};
-ghost use Rattle.site_core.specs.Choosing.{is_needed, wants_reading};
-ghost use Rattle.site_core.specs.Ahead.{ahead};
+ghost use Rattle.site_state.specs.Choosing.{wants_reading};
+ghost use Rattle.site_state.specs.Ahead.{ahead};
 ghost use Rattle.site_core.specs.Order.{KeepsOrder};
 ghost use Rattle.site_core.specs.Follows.{KeepsRun, IsSameRun, IsTold, KeepsCarried};
 
-use crate::core_state::{Core, Stage};
-use crate::error::SiteError;
 use crate::events::push;
 use crate::site::Site;
 use ckpt_model::Event;
 use node_device::Device;
 use scr_base::Step;
+use site_state::{RunStage, SiteError};
 
 /// Whether the call is answered by the time.
 fn asks_time(call: &Step) -> bool
@@ -22,22 +20,12 @@ fn asks_time(call: &Step) -> bool
     matches!(call, Step::Need | Step::Exit)
 }
 
-impl Core {
-    /// Whether a checkpoint is wanted at this question of the run, counted from 1, and at this time.
-    pub(crate) fn is_needed(&self, needs: u64, now: u64) -> bool
-        ensures { result ≡ is_needed self.now needs now }
-    {
-        needs.is_multiple_of(u64::from(self.config.interval))
-            || self.halt.reason(now, self.settled).is_some()
-    }
-}
-
 impl<D: Device> Site<D> {
     /// Whether the round is complete, isn't refused, and needs a reading of the clock. It takes no memory.
     pub fn wants_time(&self) -> bool
         ensures { result ≡ wants_reading self.now.core }
     {
-        let Stage::Serving = self.core.stage else {
+        let RunStage::Serving = self.core.stage else {
             return false;
         };
         let None = self.core.ranks.missing() else {

@@ -4,34 +4,32 @@ ghost use Rattle.node_device.specs.Rack.{states_of};
 ghost use Rattle.scr_base.specs.declared.content.Step.TheVariants as step;
 ghost use Rattle.round_core.specs.Seats.{is_complete};
 ghost use Rattle.ckpt_model.specs.Answers.{is_of_kind, is_fault, yes_if, exit_answer};
-ghost use Rattle.site_core.specs.Waiting.{round_turn, clear_turn, complete_turn, clock_turn, flush_turn};
-ghost use Rattle.site_core.specs.Choosing.{due_in};
-ghost use Rattle.site_core.specs.Ahead.{Lowers, some_calls};
+ghost use Rattle.site_state.specs.Waiting.{round_turn, clear_turn, complete_turn, clock_turn, flush_turn};
+ghost use Rattle.site_state.specs.Choosing.{due_in};
+ghost use Rattle.site_core.specs.Ahead.{Lowers};
+ghost use Rattle.site_state.specs.Ahead.{some_calls};
 ghost use Rattle.site_core.specs.Order.{KeepsOrder};
-ghost use Rattle.site_core.specs.Follows.{Keeps, TellsRound, IsSameRun, Stays, IsClearRound, IsRefusedRound, MayDecide, TellsFaults};
-ghost use Rattle.site_core.specs.Causes.{IsCalm};
+ghost use Rattle.site_core.specs.Follows.{IsAsBefore, Keeps, TellsRound, IsSameRun, Stays, MayDecide, TellsFaults};
+ghost use Rattle.site_state.specs.Asked.{IsClearRound, IsRefusedRound};
 
 use crate::calls::changes_left;
-use crate::core_state::{Stage, Work};
-use crate::error::SiteError;
 use crate::events::push;
 use crate::site::Site;
-use crate::turn::{Turn, Why};
 use ckpt_model::{Event, Kind, StopCause};
 use node_device::Device;
 use scr_base::{Copies, DataId, Flags, Phase, Reason, Refusal, Reply, Step, Word};
+use site_state::{RunStage, SaveStep, SiteError, Turn, Why};
 
 impl<D: Device> Site<D> {
     /// A complete round is decided, or has to wait.
     pub(crate) fn decide(&mut self) -> Result<Turn, SiteError>
-        requires stage { self.old.core.stage ≡ Stage.Serving }
+        requires stage { self.old.core.stage ≡ RunStage.Serving }
         requires complete { is_complete self.old.core.ranks ≡ true }
         ensures run { OnOk result (Keeps D.state self.old self.new) }
         ensures lowers { IfOk result (λ turn. Lowers turn self.old self.new) }
         ensures order { OnOk result (KeepsOrder self.old self.new) }
         ensures told { OnOk result (TellsRound D.state self.old self.new) }
-        ensures refused { OnErr result (self.new.history.events ≡ self.old.history.events) }
-        ensures calm { OnErr result (IsCalm (states_of D.state self.old.bay) (states_of D.state self.new.bay)) }
+        ensures spared { OnErr result (IsAsBefore D.state self.old self.new) }
         ensures accounted { OnOk result (TellsFaults D.state self.old self.new) }
         ensures fixed { IsSameRun D.state self.old self.new }
         ensures still { IfOk result (λ turn. Stays turn self.old self.new) }
@@ -57,7 +55,7 @@ impl<D: Device> Site<D> {
         offer: Option<DataId>,
         needs: u64,
     ) -> Result<Turn, SiteError>
-        requires stage { self.old.core.stage ≡ Stage.Serving }
+        requires stage { self.old.core.stage ≡ RunStage.Serving }
         requires steps { MayDecide D.state self.old kind answer phase offer needs }
         requires calm { is_fault answer ≡ false }
         requires calls { some_calls self.old.core.ranks ≡ true }
@@ -65,8 +63,7 @@ impl<D: Device> Site<D> {
         ensures lowers { IfOk result (λ turn. Lowers turn self.old self.new) }
         ensures order { OnOk result (KeepsOrder self.old self.new) }
         ensures told { OnOk result (TellsRound D.state self.old self.new) }
-        ensures refused { OnErr result (self.new.history.events ≡ self.old.history.events) }
-        ensures calm { OnErr result (IsCalm (states_of D.state self.old.bay) (states_of D.state self.new.bay)) }
+        ensures spared { OnErr result (IsAsBefore D.state self.old self.new) }
         ensures accounted { OnOk result (TellsFaults D.state self.old self.new) }
         ensures fixed { IsSameRun D.state self.old self.new }
         ensures still { IfOk result (λ turn. Stays turn self.old self.new) }
@@ -74,7 +71,9 @@ impl<D: Device> Site<D> {
     {
         self.history.reserve(2)?;
         self.core.ranks.decide(self.alloc, &answer)?;
-        self.history.push(Event::Decided { kind, answer })?;
+        let Ok(()) = self.history.push(Event::Decided { kind, answer }) else {
+            unreachable!()
+        };
         self.core.phase = phase;
         self.core.offer = offer;
         self.core.needs = needs;
@@ -84,14 +83,13 @@ impl<D: Device> Site<D> {
 
     /// The round is refused.
     fn refuse(&mut self, call: &Step, refusal: Refusal) -> Result<Turn, SiteError>
-        requires stage { self.old.core.stage ≡ Stage.Serving }
+        requires stage { self.old.core.stage ≡ RunStage.Serving }
         requires round { IsRefusedRound self.old.core call.now refusal }
         ensures run { OnOk result (Keeps D.state self.old self.new) }
         ensures lowers { IfOk result (λ turn. Lowers turn self.old self.new) }
         ensures order { OnOk result (KeepsOrder self.old self.new) }
         ensures told { OnOk result (TellsRound D.state self.old self.new) }
-        ensures refused { OnErr result (self.new.history.events ≡ self.old.history.events) }
-        ensures calm { OnErr result (IsCalm (states_of D.state self.old.bay) (states_of D.state self.new.bay)) }
+        ensures spared { OnErr result (IsAsBefore D.state self.old self.new) }
         ensures accounted { OnOk result (TellsFaults D.state self.old self.new) }
         ensures fixed { IsSameRun D.state self.old self.new }
         ensures still { IfOk result (λ turn. Stays turn self.old self.new) }
@@ -111,14 +109,13 @@ impl<D: Device> Site<D> {
 
     /// A round that nothing speaks against is decided, or has to wait.
     fn answer(&mut self, call: Step) -> Result<Turn, SiteError>
-        requires stage { self.old.core.stage ≡ Stage.Serving }
+        requires stage { self.old.core.stage ≡ RunStage.Serving }
         requires round { IsClearRound self.old.core call }
         ensures run { OnOk result (Keeps D.state self.old self.new) }
         ensures lowers { IfOk result (λ turn. Lowers turn self.old self.new) }
         ensures order { OnOk result (KeepsOrder self.old self.new) }
         ensures told { OnOk result (TellsRound D.state self.old self.new) }
-        ensures refused { OnErr result (self.new.history.events ≡ self.old.history.events) }
-        ensures calm { OnErr result (IsCalm (states_of D.state self.old.bay) (states_of D.state self.new.bay)) }
+        ensures spared { OnErr result (IsAsBefore D.state self.old self.new) }
         ensures accounted { OnOk result (TellsFaults D.state self.old self.new) }
         ensures fixed { IsSameRun D.state self.old self.new }
         ensures still { IfOk result (λ turn. Stays turn self.old self.new) }
@@ -140,14 +137,13 @@ impl<D: Device> Site<D> {
 
     /// A dataset is begun.
     fn start(&mut self, name: Word, flags: Flags) -> Result<Turn, SiteError>
-        requires stage { self.old.core.stage ≡ Stage.Serving }
+        requires stage { self.old.core.stage ≡ RunStage.Serving }
         requires round { IsClearRound self.old.core (step.Start name flags) }
         ensures run { OnOk result (Keeps D.state self.old self.new) }
         ensures lowers { IfOk result (λ turn. Lowers turn self.old self.new) }
         ensures order { OnOk result (KeepsOrder self.old self.new) }
         ensures told { OnOk result (TellsRound D.state self.old self.new) }
-        ensures refused { OnErr result (self.new.history.events ≡ self.old.history.events) }
-        ensures calm { OnErr result (IsCalm (states_of D.state self.old.bay) (states_of D.state self.new.bay)) }
+        ensures spared { OnErr result (IsAsBefore D.state self.old self.new) }
         ensures accounted { OnOk result (TellsFaults D.state self.old self.new) }
         ensures fixed { IsSameRun D.state self.old self.new }
         ensures still { IfOk result (λ turn. Stays turn self.old self.new) }
@@ -163,24 +159,26 @@ impl<D: Device> Site<D> {
         let answer = Reply::Started { which };
         self.history.reserve(2)?;
         self.core.ranks.decide(self.alloc, &answer)?;
-        self.history.push(Event::Decided {
+        let Ok(()) = self.history.push(Event::Decided {
             kind: Kind::Start,
             answer,
-        })?;
+        })
+        else {
+            unreachable!()
+        };
         self.core.open(manifest);
         Ok(Turn::Moved)
     }
 
     /// The dataset is kept once it is sealed on every node.
     fn complete(&mut self, valid: bool) -> Result<Turn, SiteError>
-        requires stage { self.old.core.stage ≡ Stage.Serving }
+        requires stage { self.old.core.stage ≡ RunStage.Serving }
         requires round { IsClearRound self.old.core (step.Complete valid) }
         ensures run { OnOk result (Keeps D.state self.old self.new) }
         ensures lowers { IfOk result (λ turn. Lowers turn self.old self.new) }
         ensures order { OnOk result (KeepsOrder self.old self.new) }
         ensures told { OnOk result (TellsRound D.state self.old self.new) }
-        ensures refused { OnErr result (self.new.history.events ≡ self.old.history.events) }
-        ensures calm { OnErr result (IsCalm (states_of D.state self.old.bay) (states_of D.state self.new.bay)) }
+        ensures spared { OnErr result (IsAsBefore D.state self.old self.new) }
         ensures accounted { OnOk result (TellsFaults D.state self.old self.new) }
         ensures fixed { IsSameRun D.state self.old self.new }
         ensures still { IfOk result (λ turn. Stays turn self.old self.new) }
@@ -191,7 +189,7 @@ impl<D: Device> Site<D> {
         };
         let why = if self.core.ranks.is_valid() {
             Why::Encode {
-                left: changes_left(Work::Record, 0, self.core.shape.nodes),
+                left: changes_left(SaveStep::Record, 0, self.core.shape.nodes),
             }
         } else {
             Why::Evict {
@@ -203,15 +201,14 @@ impl<D: Device> Site<D> {
 
     /// The dataset is sealed on every node.
     fn kept(&mut self) -> Result<Turn, SiteError>
-        requires stage { self.old.core.stage ≡ Stage.Serving }
+        requires stage { self.old.core.stage ≡ RunStage.Serving }
         requires round { (valid : Bool) × IsClearRound self.old.core (step.Complete valid) }
         requires opened { self.old.core.opened ≡ None }
         ensures run { OnOk result (Keeps D.state self.old self.new) }
         ensures lowers { IfOk result (λ turn. Lowers turn self.old self.new) }
         ensures order { OnOk result (KeepsOrder self.old self.new) }
         ensures told { OnOk result (TellsRound D.state self.old self.new) }
-        ensures refused { OnErr result (self.new.history.events ≡ self.old.history.events) }
-        ensures calm { OnErr result (IsCalm (states_of D.state self.old.bay) (states_of D.state self.new.bay)) }
+        ensures spared { OnErr result (IsAsBefore D.state self.old self.new) }
         ensures accounted { OnOk result (TellsFaults D.state self.old self.new) }
         ensures fixed { IsSameRun D.state self.old self.new }
         ensures still { IfOk result (λ turn. Stays turn self.old self.new) }
@@ -231,14 +228,13 @@ impl<D: Device> Site<D> {
 
     /// The newest checkpoint is offered, or there is none.
     fn have(&mut self) -> Result<Turn, SiteError>
-        requires stage { self.old.core.stage ≡ Stage.Serving }
+        requires stage { self.old.core.stage ≡ RunStage.Serving }
         requires round { IsClearRound self.old.core step.Have }
         ensures run { OnOk result (Keeps D.state self.old self.new) }
         ensures lowers { IfOk result (λ turn. Lowers turn self.old self.new) }
         ensures order { OnOk result (KeepsOrder self.old self.new) }
         ensures told { OnOk result (TellsRound D.state self.old self.new) }
-        ensures refused { OnErr result (self.new.history.events ≡ self.old.history.events) }
-        ensures calm { OnErr result (IsCalm (states_of D.state self.old.bay) (states_of D.state self.new.bay)) }
+        ensures spared { OnErr result (IsAsBefore D.state self.old self.new) }
         ensures accounted { OnOk result (TellsFaults D.state self.old self.new) }
         ensures fixed { IsSameRun D.state self.old self.new }
         ensures still { IfOk result (λ turn. Stays turn self.old self.new) }
@@ -268,14 +264,13 @@ impl<D: Device> Site<D> {
 
     /// The offered dataset is taken.
     fn restart(&mut self) -> Result<Turn, SiteError>
-        requires stage { self.old.core.stage ≡ Stage.Serving }
+        requires stage { self.old.core.stage ≡ RunStage.Serving }
         requires round { IsClearRound self.old.core step.Restart }
         ensures run { OnOk result (Keeps D.state self.old self.new) }
         ensures lowers { IfOk result (λ turn. Lowers turn self.old self.new) }
         ensures order { OnOk result (KeepsOrder self.old self.new) }
         ensures told { OnOk result (TellsRound D.state self.old self.new) }
-        ensures refused { OnErr result (self.new.history.events ≡ self.old.history.events) }
-        ensures calm { OnErr result (IsCalm (states_of D.state self.old.bay) (states_of D.state self.new.bay)) }
+        ensures spared { OnErr result (IsAsBefore D.state self.old self.new) }
         ensures accounted { OnOk result (TellsFaults D.state self.old self.new) }
         ensures fixed { IsSameRun D.state self.old self.new }
         ensures still { IfOk result (λ turn. Stays turn self.old self.new) }
@@ -298,14 +293,13 @@ impl<D: Device> Site<D> {
 
     /// Every rank has what it needs of the dataset.
     fn restarted(&mut self, valid: bool) -> Result<Turn, SiteError>
-        requires stage { self.old.core.stage ≡ Stage.Serving }
+        requires stage { self.old.core.stage ≡ RunStage.Serving }
         requires round { IsClearRound self.old.core (step.Restarted valid) }
         ensures run { OnOk result (Keeps D.state self.old self.new) }
         ensures lowers { IfOk result (λ turn. Lowers turn self.old self.new) }
         ensures order { OnOk result (KeepsOrder self.old self.new) }
         ensures told { OnOk result (TellsRound D.state self.old self.new) }
-        ensures refused { OnErr result (self.new.history.events ≡ self.old.history.events) }
-        ensures calm { OnErr result (IsCalm (states_of D.state self.old.bay) (states_of D.state self.new.bay)) }
+        ensures spared { OnErr result (IsAsBefore D.state self.old self.new) }
         ensures accounted { OnOk result (TellsFaults D.state self.old self.new) }
         ensures fixed { IsSameRun D.state self.old self.new }
         ensures still { IfOk result (λ turn. Stays turn self.old self.new) }
@@ -325,14 +319,13 @@ impl<D: Device> Site<D> {
 
     /// Whether a checkpoint is wanted: at each n-th question of the run, and where the job is to stop.
     fn need(&mut self) -> Result<Turn, SiteError>
-        requires stage { self.old.core.stage ≡ Stage.Serving }
+        requires stage { self.old.core.stage ≡ RunStage.Serving }
         requires round { IsClearRound self.old.core step.Need }
         ensures run { OnOk result (Keeps D.state self.old self.new) }
         ensures lowers { IfOk result (λ turn. Lowers turn self.old self.new) }
         ensures order { OnOk result (KeepsOrder self.old self.new) }
         ensures told { OnOk result (TellsRound D.state self.old self.new) }
-        ensures refused { OnErr result (self.new.history.events ≡ self.old.history.events) }
-        ensures calm { OnErr result (IsCalm (states_of D.state self.old.bay) (states_of D.state self.new.bay)) }
+        ensures spared { OnErr result (IsAsBefore D.state self.old self.new) }
         ensures accounted { OnOk result (TellsFaults D.state self.old self.new) }
         ensures fixed { IsSameRun D.state self.old self.new }
         ensures still { IfOk result (λ turn. Stays turn self.old self.new) }
@@ -351,14 +344,13 @@ impl<D: Device> Site<D> {
 
     /// Whether the job is to stop, and why.
     fn exit(&mut self) -> Result<Turn, SiteError>
-        requires stage { self.old.core.stage ≡ Stage.Serving }
+        requires stage { self.old.core.stage ≡ RunStage.Serving }
         requires round { IsClearRound self.old.core step.Exit }
         ensures run { OnOk result (Keeps D.state self.old self.new) }
         ensures lowers { IfOk result (λ turn. Lowers turn self.old self.new) }
         ensures order { OnOk result (KeepsOrder self.old self.new) }
         ensures told { OnOk result (TellsRound D.state self.old self.new) }
-        ensures refused { OnErr result (self.new.history.events ≡ self.old.history.events) }
-        ensures calm { OnErr result (IsCalm (states_of D.state self.old.bay) (states_of D.state self.new.bay)) }
+        ensures spared { OnErr result (IsAsBefore D.state self.old self.new) }
         ensures accounted { OnOk result (TellsFaults D.state self.old self.new) }
         ensures fixed { IsSameRun D.state self.old self.new }
         ensures still { IfOk result (λ turn. Stays turn self.old self.new) }
@@ -379,14 +371,13 @@ impl<D: Device> Site<D> {
 
     /// The job has done its work, once nothing is left to be flushed.
     fn finalize(&mut self) -> Result<Turn, SiteError>
-        requires stage { self.old.core.stage ≡ Stage.Serving }
+        requires stage { self.old.core.stage ≡ RunStage.Serving }
         requires round { IsClearRound self.old.core step.Finalize }
         ensures run { OnOk result (Keeps D.state self.old self.new) }
         ensures lowers { IfOk result (λ turn. Lowers turn self.old self.new) }
         ensures order { OnOk result (KeepsOrder self.old self.new) }
         ensures told { OnOk result (TellsRound D.state self.old self.new) }
-        ensures refused { OnErr result (self.new.history.events ≡ self.old.history.events) }
-        ensures calm { OnErr result (IsCalm (states_of D.state self.old.bay) (states_of D.state self.new.bay)) }
+        ensures spared { OnErr result (IsAsBefore D.state self.old self.new) }
         ensures accounted { OnOk result (TellsFaults D.state self.old self.new) }
         ensures fixed { IsSameRun D.state self.old self.new }
         ensures still { IfOk result (λ turn. Stays turn self.old self.new) }
@@ -408,14 +399,13 @@ impl<D: Device> Site<D> {
 
     /// The run is over.
     fn end(&mut self) -> Result<Turn, SiteError>
-        requires stage { self.old.core.stage ≡ Stage.Serving }
+        requires stage { self.old.core.stage ≡ RunStage.Serving }
         requires round { IsClearRound self.old.core step.End }
         ensures run { OnOk result (Keeps D.state self.old self.new) }
         ensures lowers { IfOk result (λ turn. Lowers turn self.old self.new) }
         ensures order { OnOk result (KeepsOrder self.old self.new) }
         ensures told { OnOk result (TellsRound D.state self.old self.new) }
-        ensures refused { OnErr result (self.new.history.events ≡ self.old.history.events) }
-        ensures calm { OnErr result (IsCalm (states_of D.state self.old.bay) (states_of D.state self.new.bay)) }
+        ensures spared { OnErr result (IsAsBefore D.state self.old self.new) }
         ensures accounted { OnOk result (TellsFaults D.state self.old self.new) }
         ensures fixed { IsSameRun D.state self.old self.new }
         ensures still { IfOk result (λ turn. Stays turn self.old self.new) }
@@ -430,7 +420,7 @@ impl<D: Device> Site<D> {
                 cause: StopCause::Ended,
             },
         )?;
-        self.core.stage = Stage::Over;
+        self.core.stage = RunStage::Over;
         Ok(Turn::Moved)
     }
 }

@@ -1,22 +1,18 @@
 // The moves of the evictor: the files of an open dataset that isn't to be kept are removed.
 ghost use Rattle.std.specs.Prelude.{◌≡◌, ◌+◌, ◌<◌, ◌≤◌, true, None, Some, IfOk, OnOk, OnErr, if◌then◌else◌};
-ghost use Rattle.site_core.specs.Choosing.{is_to_drop};
-ghost use Rattle.site_core.specs.Waiting.{evictor_turn};
+ghost use Rattle.site_state.specs.Choosing.{is_to_drop};
+ghost use Rattle.site_state.specs.Waiting.{evictor_turn};
 ghost use Rattle.site_core.specs.Ahead.{Lowers};
 ghost use Rattle.site_core.specs.Order.{KeepsOrder};
-ghost use Rattle.site_core.specs.Follows.{Keeps, TellsBy, TellsRound, IsSameRun, Stays, TellsFaults, KeepsCarried};
+ghost use Rattle.site_core.specs.Follows.{IsAsBefore, Keeps, TellsBy, TellsRound, IsSameRun, Stays, TellsFaults, KeepsCarried};
 ghost use Rattle.scr_base.specs.declared.actor.Actor.TheVariants as actor;
 ghost use Rattle.node_device.specs.Rack.{states_of};
-ghost use Rattle.site_core.specs.Causes.{IsCalm};
 
-use crate::core_state::{Drop, Stage};
-use crate::error::SiteError;
-use crate::file_calls::{drop_file, sync_node};
-use crate::removal::Removal;
 use crate::site::Site;
-use crate::turn::{Turn, Why};
 use ckpt_model::{Event, Kind};
 use node_device::Device;
+use site_calls::{Removal, drop_file, sync_node};
+use site_state::{DropStep, RunStage, SiteError, Turn, Why};
 
 impl<D: Device> Site<D> {
     /// The evictor's turn.
@@ -25,8 +21,7 @@ impl<D: Device> Site<D> {
         ensures lowers { IfOk result (λ turn. Lowers turn self.old self.new) }
         ensures order { OnOk result (KeepsOrder self.old self.new) }
         ensures told { OnOk result (TellsBy actor.Evictor D.state self.old self.new) }
-        ensures refused { OnErr result (self.new.history.events ≡ self.old.history.events) }
-        ensures calm { OnErr result (IsCalm (states_of D.state self.old.bay) (states_of D.state self.new.bay)) }
+        ensures spared { OnErr result (IsAsBefore D.state self.old self.new) }
         ensures accounted { OnOk result (TellsFaults D.state self.old self.new) }
         ensures kept { OnOk result (KeepsCarried self.old self.new) }
         ensures fixed { IsSameRun D.state self.old self.new }
@@ -34,27 +29,26 @@ impl<D: Device> Site<D> {
         ensures waits { IfOk result (λ turn. turn ≡ evictor_turn self.old.core.stage self.old.core) }
     {
         match self.core.stage {
-            Stage::Serving => self.begin_dropping(),
-            Stage::Dropping { drop, node } => self.drop_on(drop, node),
-            Stage::Begun
-            | Stage::Storing
-            | Stage::Looking
-            | Stage::Mending
-            | Stage::Saving { .. }
-            | Stage::Dropped => Ok(Turn::NotYet { why: Why::Idle }),
-            Stage::Over => Ok(Turn::Ended),
+            RunStage::Serving => self.begin_dropping(),
+            RunStage::Dropping { drop, node } => self.drop_on(drop, node),
+            RunStage::Begun
+            | RunStage::Storing
+            | RunStage::Looking
+            | RunStage::Mending
+            | RunStage::Saving { .. }
+            | RunStage::Dropped => Ok(Turn::NotYet { why: Why::Idle }),
+            RunStage::Over => Ok(Turn::Ended),
         }
     }
 
     /// The removal begins once the ranks ask for it.
     fn begin_dropping(&mut self) -> Result<Turn, SiteError>
-        requires stage { self.old.core.stage ≡ Stage.Serving }
+        requires stage { self.old.core.stage ≡ RunStage.Serving }
         ensures run { OnOk result (Keeps D.state self.old self.new) }
         ensures lowers { IfOk result (λ turn. Lowers turn self.old self.new) }
         ensures order { OnOk result (KeepsOrder self.old self.new) }
         ensures told { OnOk result (TellsBy actor.Evictor D.state self.old self.new) }
-        ensures refused { OnErr result (self.new.history.events ≡ self.old.history.events) }
-        ensures calm { OnErr result (IsCalm (states_of D.state self.old.bay) (states_of D.state self.new.bay)) }
+        ensures spared { OnErr result (IsAsBefore D.state self.old self.new) }
         ensures accounted { OnOk result (TellsFaults D.state self.old self.new) }
         ensures fixed { IsSameRun D.state self.old self.new }
         ensures still { IfOk result (λ turn. Stays turn self.old self.new) }
@@ -69,14 +63,13 @@ impl<D: Device> Site<D> {
     }
 
     /// The change that comes next.
-    fn drop_on(&mut self, drop: Drop, node: u8) -> Result<Turn, SiteError>
-        requires stage { self.old.core.stage ≡ Stage.Dropping drop node }
+    fn drop_on(&mut self, drop: DropStep, node: u8) -> Result<Turn, SiteError>
+        requires stage { self.old.core.stage ≡ RunStage.Dropping drop node }
         ensures run { OnOk result (Keeps D.state self.old self.new) }
         ensures lowers { IfOk result (λ turn. Lowers turn self.old self.new) }
         ensures order { OnOk result (KeepsOrder self.old self.new) }
         ensures told { OnOk result (TellsBy actor.Evictor D.state self.old self.new) }
-        ensures refused { OnErr result (self.new.history.events ≡ self.old.history.events) }
-        ensures calm { OnErr result (IsCalm (states_of D.state self.old.bay) (states_of D.state self.new.bay)) }
+        ensures spared { OnErr result (IsAsBefore D.state self.old self.new) }
         ensures accounted { OnOk result (TellsFaults D.state self.old self.new) }
         ensures kept { OnOk result (KeepsCarried self.old self.new) }
         ensures fixed { IsSameRun D.state self.old self.new }
@@ -84,20 +77,19 @@ impl<D: Device> Site<D> {
         ensures moved { IfOk result (λ turn. turn ≡ Turn.Moved) }
     {
         match drop {
-            Drop::File => self.remove_file(node),
-            Drop::Sync => self.sync_removal(node),
+            DropStep::File => self.remove_file(node),
+            DropStep::Sync => self.sync_removal(node),
         }
     }
 
     /// A file of the node's member is removed, if one is left.
     fn remove_file(&mut self, node: u8) -> Result<Turn, SiteError>
-        requires stage { self.old.core.stage ≡ Stage.Dropping Drop.File node }
+        requires stage { self.old.core.stage ≡ RunStage.Dropping DropStep.File node }
         ensures run { OnOk result (Keeps D.state self.old self.new) }
         ensures lowers { IfOk result (λ turn. Lowers turn self.old self.new) }
         ensures order { OnOk result (KeepsOrder self.old self.new) }
         ensures told { OnOk result (TellsBy actor.Evictor D.state self.old self.new) }
-        ensures refused { OnErr result (self.new.history.events ≡ self.old.history.events) }
-        ensures calm { OnErr result (IsCalm (states_of D.state self.old.bay) (states_of D.state self.new.bay)) }
+        ensures spared { OnErr result (IsAsBefore D.state self.old self.new) }
         ensures accounted { OnOk result (TellsFaults D.state self.old self.new) }
         ensures kept { OnOk result (KeepsCarried self.old self.new) }
         ensures fixed { IsSameRun D.state self.old self.new }
@@ -110,8 +102,8 @@ impl<D: Device> Site<D> {
         self.history.reserve(2)?;
         match drop_file(self.alloc, &mut self.bay, place, &mut self.core.removal) {
             Ok(true) => {
-                self.core.stage = Stage::Dropping {
-                    drop: Drop::Sync,
+                self.core.stage = RunStage::Dropping {
+                    drop: DropStep::Sync,
                     node,
                 };
                 Ok(Turn::Moved)
@@ -123,13 +115,12 @@ impl<D: Device> Site<D> {
 
     /// What was removed on the node is made stable; the next node comes, or the round is to be decided.
     fn sync_removal(&mut self, node: u8) -> Result<Turn, SiteError>
-        requires stage { self.old.core.stage ≡ Stage.Dropping Drop.Sync node }
+        requires stage { self.old.core.stage ≡ RunStage.Dropping DropStep.Sync node }
         ensures run { OnOk result (Keeps D.state self.old self.new) }
         ensures lowers { IfOk result (λ turn. Lowers turn self.old self.new) }
         ensures order { OnOk result (KeepsOrder self.old self.new) }
         ensures told { OnOk result (TellsBy actor.Evictor D.state self.old self.new) }
-        ensures refused { OnErr result (self.new.history.events ≡ self.old.history.events) }
-        ensures calm { OnErr result (IsCalm (states_of D.state self.old.bay) (states_of D.state self.new.bay)) }
+        ensures spared { OnErr result (IsAsBefore D.state self.old self.new) }
         ensures accounted { OnOk result (TellsFaults D.state self.old self.new) }
         ensures kept { OnOk result (KeepsCarried self.old self.new) }
         ensures fixed { IsSameRun D.state self.old self.new }
@@ -151,13 +142,12 @@ impl<D: Device> Site<D> {
 
     /// The round is decided: the dataset isn't kept, or a device refused it.
     pub(crate) fn decide_dropped(&mut self) -> Result<Turn, SiteError>
-        requires stage { self.old.core.stage ≡ Stage.Dropped }
+        requires stage { self.old.core.stage ≡ RunStage.Dropped }
         ensures run { OnOk result (Keeps D.state self.old self.new) }
         ensures lowers { IfOk result (λ turn. Lowers turn self.old self.new) }
         ensures order { OnOk result (KeepsOrder self.old self.new) }
         ensures told { OnOk result (TellsRound D.state self.old self.new) }
-        ensures refused { OnErr result (self.new.history.events ≡ self.old.history.events) }
-        ensures calm { OnErr result (IsCalm (states_of D.state self.old.bay) (states_of D.state self.new.bay)) }
+        ensures spared { OnErr result (IsAsBefore D.state self.old self.new) }
         ensures accounted { OnOk result (TellsFaults D.state self.old self.new) }
         ensures kept { OnOk result (KeepsCarried self.old self.new) }
         ensures fixed { IsSameRun D.state self.old self.new }
@@ -167,10 +157,13 @@ impl<D: Device> Site<D> {
         let answer = self.core.dropped_answer();
         self.history.reserve(2)?;
         self.core.ranks.decide(self.alloc, &answer)?;
-        self.history.push(Event::Decided {
+        let Ok(()) = self.history.push(Event::Decided {
             kind: Kind::Complete,
             answer,
-        })?;
+        })
+        else {
+            unreachable!()
+        };
         self.core.close_dropped();
         Ok(Turn::Moved)
     }

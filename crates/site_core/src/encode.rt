@@ -1,26 +1,25 @@
 // The moves of the encoder: each node's record is written, and its gates are opened.
 ghost use Rattle.std.specs.Prelude.{◌≡◌, ◌+◌, ◌-◌, ◌*◌, ◌<◌, ◌≤◌, ◌^◌, true, false, None, Some, length, map, IfOk, OnOk, OnErr, if◌then◌else◌};
 ghost use Rattle.node_device.specs.Rack.{states_of};
-ghost use Rattle.site_core.specs.declared.core_state.Work.TheVariants as work;
+ghost use Rattle.site_state.specs.declared.run_state.SaveStep.TheVariants as work;
 ghost use Rattle.scr_base.specs.declared.answers.Refusal.{Refusal};
-ghost use Rattle.site_core.specs.Cores.{dropping_core};
-ghost use Rattle.site_core.specs.Choosing.{is_to_save};
-ghost use Rattle.site_core.specs.Waiting.{encoder_turn};
-ghost use Rattle.site_core.specs.Causes.{told_trouble, IsCalm};
-ghost use Rattle.site_core.specs.Ahead.{Lowers, IsToRecord, removal_ahead, stage_ahead};
+ghost use Rattle.site_state.specs.Cores.{dropping_core};
+ghost use Rattle.site_state.specs.Choosing.{is_to_save};
+ghost use Rattle.site_state.specs.Waiting.{encoder_turn};
+ghost use Rattle.site_calls.specs.Causes.{told_trouble};
+ghost use Rattle.site_core.specs.Ahead.{Lowers};
+ghost use Rattle.site_state.specs.Ahead.{IsToRecord, removal_ahead, stage_ahead};
 ghost use Rattle.site_core.specs.Order.{KeepsOrder};
 ghost use Rattle.scr_base.specs.declared.actor.Actor.TheVariants as actor;
-ghost use Rattle.site_core.specs.Follows.{Keeps, TellsBy, TellsEachFull, IsSameRun, Stays, IsSavingAt, TellsFaults, TellsOrCarries, carried};
+ghost use Rattle.site_core.specs.Follows.{IsAsBefore, IsPlaced, Keeps, TellsBy, TellsEachFull, IsSameRun, Stays, IsSavingAt, TellsFaults, TellsOrCarries, carried};
 
-use crate::core_state::{Stage, Work};
-use crate::error::{SiteError, Trouble};
-use crate::file_calls::{put_gate, put_member, sync_node};
 use crate::site::Site;
-use crate::turn::{Turn, Why};
 use ckpt_model::Event;
 use member_store::MemberGate;
 use node_device::Device;
 use scr_base::DataId;
+use site_calls::{Trouble, put_gate, put_member, sync_node};
+use site_state::{RunStage, SaveStep, SiteError, Turn, Why};
 
 impl<D: Device> Site<D> {
     /// The encoder's turn.
@@ -30,37 +29,37 @@ impl<D: Device> Site<D> {
         ensures order { OnOk result (KeepsOrder self.old self.new) }
         ensures told { OnOk result (TellsBy actor.Encoder D.state self.old self.new) }
         ensures full { OnOk result (TellsEachFull actor.Encoder D.state self.old self.new) }
-        ensures refused { OnErr result (self.new.history.events ≡ self.old.history.events) }
-        ensures calm { OnErr result (IsCalm (states_of D.state self.old.bay) (states_of D.state self.new.bay)) }
+        ensures spared { OnErr result (IsAsBefore D.state self.old self.new) }
         ensures accounted { OnOk result (TellsOrCarries D.state self.old self.new) }
+        ensures placed { OnOk result (IsPlaced self.old.core self.new.core) }
         ensures fixed { IsSameRun D.state self.old self.new }
         ensures still { IfOk result (λ turn. Stays turn self.old self.new) }
         ensures waits { IfOk result (λ turn. turn ≡ encoder_turn self.old.core.stage self.old.core) }
     {
         match self.core.stage {
-            Stage::Serving => self.begin_saving(),
-            Stage::Saving { work, node } => self.save(work, node),
-            Stage::Begun
-            | Stage::Storing
-            | Stage::Looking
-            | Stage::Mending
-            | Stage::Dropping { .. }
-            | Stage::Dropped => Ok(Turn::NotYet { why: Why::Idle }),
-            Stage::Over => Ok(Turn::Ended),
+            RunStage::Serving => self.begin_saving(),
+            RunStage::Saving { work, node } => self.save(work, node),
+            RunStage::Begun
+            | RunStage::Storing
+            | RunStage::Looking
+            | RunStage::Mending
+            | RunStage::Dropping { .. }
+            | RunStage::Dropped => Ok(Turn::NotYet { why: Why::Idle }),
+            RunStage::Over => Ok(Turn::Ended),
         }
     }
 
     /// The open dataset is saved once the ranks ask for it.
     fn begin_saving(&mut self) -> Result<Turn, SiteError>
-        requires stage { self.old.core.stage ≡ Stage.Serving }
+        requires stage { self.old.core.stage ≡ RunStage.Serving }
         ensures run { OnOk result (Keeps D.state self.old self.new) }
         ensures lowers { IfOk result (λ turn. Lowers turn self.old self.new) }
         ensures order { OnOk result (KeepsOrder self.old self.new) }
         ensures told { OnOk result (TellsBy actor.Encoder D.state self.old self.new) }
         ensures full { OnOk result (TellsEachFull actor.Encoder D.state self.old self.new) }
-        ensures refused { OnErr result (self.new.history.events ≡ self.old.history.events) }
-        ensures calm { OnErr result (IsCalm (states_of D.state self.old.bay) (states_of D.state self.new.bay)) }
+        ensures spared { OnErr result (IsAsBefore D.state self.old self.new) }
         ensures accounted { OnOk result (TellsOrCarries D.state self.old self.new) }
+        ensures placed { OnOk result (IsPlaced self.old.core self.new.core) }
         ensures fixed { IsSameRun D.state self.old self.new }
         ensures still { IfOk result (λ turn. Stays turn self.old self.new) }
         ensures waits { IfOk result (λ turn. turn ≡ (if is_to_save self.old.core then Turn.Moved else Turn.NotYet Why.Idle)) }
@@ -73,27 +72,27 @@ impl<D: Device> Site<D> {
     }
 
     /// The change that comes next.
-    fn save(&mut self, work: Work, node: u8) -> Result<Turn, SiteError>
-        requires stage { self.old.core.stage ≡ Stage.Saving work node }
+    fn save(&mut self, work: SaveStep, node: u8) -> Result<Turn, SiteError>
+        requires stage { self.old.core.stage ≡ RunStage.Saving work node }
         ensures run { OnOk result (Keeps D.state self.old self.new) }
         ensures lowers { IfOk result (λ turn. Lowers turn self.old self.new) }
         ensures order { OnOk result (KeepsOrder self.old self.new) }
         ensures told { OnOk result (TellsBy actor.Encoder D.state self.old self.new) }
         ensures full { OnOk result (TellsEachFull actor.Encoder D.state self.old self.new) }
-        ensures refused { OnErr result (self.new.history.events ≡ self.old.history.events) }
-        ensures calm { OnErr result (IsCalm (states_of D.state self.old.bay) (states_of D.state self.new.bay)) }
+        ensures spared { OnErr result (IsAsBefore D.state self.old self.new) }
         ensures accounted { OnOk result (TellsOrCarries D.state self.old self.new) }
+        ensures placed { OnOk result (IsPlaced self.old.core self.new.core) }
         ensures fixed { IsSameRun D.state self.old self.new }
         ensures still { IfOk result (λ turn. Stays turn self.old self.new) }
         ensures moved { IfOk result (λ turn. turn ≡ Turn.Moved) }
     {
         match work {
-            Work::Record => self.write_record(node),
-            Work::RecordSync => self.sync_record(node),
-            Work::Whole => self.open_whole(node),
-            Work::WholeSync => self.sync_whole(node),
-            Work::Sealed => self.open_sealed(node),
-            Work::SealedSync => self.sync_sealed(node),
+            SaveStep::Record => self.write_record(node),
+            SaveStep::RecordSync => self.sync_record(node),
+            SaveStep::Whole => self.open_whole(node),
+            SaveStep::WholeSync => self.sync_whole(node),
+            SaveStep::Sealed => self.open_sealed(node),
+            SaveStep::SealedSync => self.sync_sealed(node),
         }
     }
 
@@ -101,16 +100,16 @@ impl<D: Device> Site<D> {
     fn write_record(&mut self, node: u8) -> Result<Turn, SiteError>
         requires saving { IsSavingAt D.state self.old work.Record node }
         requires stage { IsToRecord self.old.core.stage node }
-        requires asked { self.old.core.stage ≡ Stage.Serving → is_to_save self.old.core ≡ true }
+        requires asked { self.old.core.stage ≡ RunStage.Serving → is_to_save self.old.core ≡ true }
         requires free { carried self.old.core ≡ None }
         ensures run { OnOk result (Keeps D.state self.old self.new) }
         ensures lowers { IfOk result (λ turn. Lowers turn self.old self.new) }
         ensures order { OnOk result (KeepsOrder self.old self.new) }
         ensures told { OnOk result (TellsBy actor.Encoder D.state self.old self.new) }
         ensures full { OnOk result (TellsEachFull actor.Encoder D.state self.old self.new) }
-        ensures refused { OnErr result (self.new.history.events ≡ self.old.history.events) }
-        ensures calm { OnErr result (IsCalm (states_of D.state self.old.bay) (states_of D.state self.new.bay)) }
+        ensures spared { OnErr result (IsAsBefore D.state self.old self.new) }
         ensures accounted { OnOk result (TellsOrCarries D.state self.old self.new) }
+        ensures placed { OnOk result (IsPlaced self.old.core self.new.core) }
         ensures fixed { IsSameRun D.state self.old self.new }
         ensures still { IfOk result (λ turn. Stays turn self.old self.new) }
         ensures moved { IfOk result (λ turn. turn ≡ Turn.Moved) }
@@ -129,8 +128,8 @@ impl<D: Device> Site<D> {
         let which = m.desc.which;
         match put_member(self.alloc, &mut self.bay, place, node, &m.desc, &m.files) {
             Ok(()) => {
-                self.core.stage = Stage::Saving {
-                    work: Work::RecordSync,
+                self.core.stage = RunStage::Saving {
+                    work: SaveStep::RecordSync,
                     node,
                 };
                 Ok(Turn::Moved)
@@ -141,14 +140,14 @@ impl<D: Device> Site<D> {
 
     /// A node's record is made stable.
     fn sync_record(&mut self, node: u8) -> Result<Turn, SiteError>
-        requires stage { self.old.core.stage ≡ Stage.Saving Work.RecordSync node }
+        requires stage { self.old.core.stage ≡ RunStage.Saving SaveStep.RecordSync node }
         ensures run { OnOk result (Keeps D.state self.old self.new) }
         ensures lowers { IfOk result (λ turn. Lowers turn self.old self.new) }
         ensures order { OnOk result (KeepsOrder self.old self.new) }
         ensures told { OnOk result (TellsBy actor.Encoder D.state self.old self.new) }
-        ensures refused { OnErr result (self.new.history.events ≡ self.old.history.events) }
-        ensures calm { OnErr result (IsCalm (states_of D.state self.old.bay) (states_of D.state self.new.bay)) }
+        ensures spared { OnErr result (IsAsBefore D.state self.old self.new) }
         ensures accounted { OnOk result (TellsOrCarries D.state self.old self.new) }
+        ensures placed { OnOk result (IsPlaced self.old.core self.new.core) }
         ensures fixed { IsSameRun D.state self.old self.new }
         ensures still { IfOk result (λ turn. Stays turn self.old self.new) }
         ensures moved { IfOk result (λ turn. turn ≡ Turn.Moved) }
@@ -162,7 +161,7 @@ impl<D: Device> Site<D> {
         let which = m.desc.which;
         match sync_node(&mut self.bay, place) {
             Ok(()) => {
-                self.core.stage = self.core.after(node, Work::Record, Work::Whole);
+                self.core.stage = self.core.after(node, SaveStep::Record, SaveStep::Whole);
                 Ok(Turn::Moved)
             }
             Err(trouble) => self.carry(which, trouble),
@@ -171,15 +170,15 @@ impl<D: Device> Site<D> {
 
     /// A node's gate `whole` is opened.
     fn open_whole(&mut self, node: u8) -> Result<Turn, SiteError>
-        requires stage { self.old.core.stage ≡ Stage.Saving Work.Whole node }
+        requires stage { self.old.core.stage ≡ RunStage.Saving SaveStep.Whole node }
         ensures run { OnOk result (Keeps D.state self.old self.new) }
         ensures lowers { IfOk result (λ turn. Lowers turn self.old self.new) }
         ensures order { OnOk result (KeepsOrder self.old self.new) }
         ensures told { OnOk result (TellsBy actor.Encoder D.state self.old self.new) }
         ensures full { OnOk result (TellsEachFull actor.Encoder D.state self.old self.new) }
-        ensures refused { OnErr result (self.new.history.events ≡ self.old.history.events) }
-        ensures calm { OnErr result (IsCalm (states_of D.state self.old.bay) (states_of D.state self.new.bay)) }
+        ensures spared { OnErr result (IsAsBefore D.state self.old self.new) }
         ensures accounted { OnOk result (TellsFaults D.state self.old self.new) }
+        ensures placed { OnOk result (IsPlaced self.old.core self.new.core) }
         ensures fixed { IsSameRun D.state self.old self.new }
         ensures still { IfOk result (λ turn. Stays turn self.old self.new) }
         ensures moved { IfOk result (λ turn. turn ≡ Turn.Moved) }
@@ -193,8 +192,8 @@ impl<D: Device> Site<D> {
         self.history.reserve(2)?;
         match put_gate(&mut self.bay, place, which, node, MemberGate::Whole) {
             Ok(()) => {
-                self.core.stage = Stage::Saving {
-                    work: Work::WholeSync,
+                self.core.stage = RunStage::Saving {
+                    work: SaveStep::WholeSync,
                     node,
                 };
                 Ok(Turn::Moved)
@@ -205,14 +204,14 @@ impl<D: Device> Site<D> {
 
     /// A node's gate `whole` is made stable.
     fn sync_whole(&mut self, node: u8) -> Result<Turn, SiteError>
-        requires stage { self.old.core.stage ≡ Stage.Saving Work.WholeSync node }
+        requires stage { self.old.core.stage ≡ RunStage.Saving SaveStep.WholeSync node }
         ensures run { OnOk result (Keeps D.state self.old self.new) }
         ensures lowers { IfOk result (λ turn. Lowers turn self.old self.new) }
         ensures order { OnOk result (KeepsOrder self.old self.new) }
         ensures told { OnOk result (TellsBy actor.Encoder D.state self.old self.new) }
-        ensures refused { OnErr result (self.new.history.events ≡ self.old.history.events) }
-        ensures calm { OnErr result (IsCalm (states_of D.state self.old.bay) (states_of D.state self.new.bay)) }
+        ensures spared { OnErr result (IsAsBefore D.state self.old self.new) }
         ensures accounted { OnOk result (TellsFaults D.state self.old self.new) }
+        ensures placed { OnOk result (IsPlaced self.old.core self.new.core) }
         ensures fixed { IsSameRun D.state self.old self.new }
         ensures still { IfOk result (λ turn. Stays turn self.old self.new) }
         ensures moved { IfOk result (λ turn. turn ≡ Turn.Moved) }
@@ -223,7 +222,7 @@ impl<D: Device> Site<D> {
         self.history.reserve(2)?;
         match sync_node(&mut self.bay, place) {
             Ok(()) => {
-                self.core.stage = self.core.after(node, Work::Whole, Work::Sealed);
+                self.core.stage = self.core.after(node, SaveStep::Whole, SaveStep::Sealed);
                 Ok(Turn::Moved)
             }
             Err(trouble) => self.stop_by_fault(trouble),
@@ -232,15 +231,15 @@ impl<D: Device> Site<D> {
 
     /// A node's gate `sealed` is opened; at the first, the dataset is in cache.
     fn open_sealed(&mut self, node: u8) -> Result<Turn, SiteError>
-        requires stage { self.old.core.stage ≡ Stage.Saving Work.Sealed node }
+        requires stage { self.old.core.stage ≡ RunStage.Saving SaveStep.Sealed node }
         ensures run { OnOk result (Keeps D.state self.old self.new) }
         ensures lowers { IfOk result (λ turn. Lowers turn self.old self.new) }
         ensures order { OnOk result (KeepsOrder self.old self.new) }
         ensures told { OnOk result (TellsBy actor.Encoder D.state self.old self.new) }
         ensures full { OnOk result (TellsEachFull actor.Encoder D.state self.old self.new) }
-        ensures refused { OnErr result (self.new.history.events ≡ self.old.history.events) }
-        ensures calm { OnErr result (IsCalm (states_of D.state self.old.bay) (states_of D.state self.new.bay)) }
+        ensures spared { OnErr result (IsAsBefore D.state self.old self.new) }
         ensures accounted { OnOk result (TellsFaults D.state self.old self.new) }
+        ensures placed { OnOk result (IsPlaced self.old.core self.new.core) }
         ensures fixed { IsSameRun D.state self.old self.new }
         ensures still { IfOk result (λ turn. Stays turn self.old self.new) }
         ensures moved { IfOk result (λ turn. turn ≡ Turn.Moved) }
@@ -253,15 +252,15 @@ impl<D: Device> Site<D> {
 
     /// The first gate `sealed` is opened: the dataset is in cache.
     fn seal_first(&mut self, node: u8) -> Result<Turn, SiteError>
-        requires stage { self.old.core.stage ≡ Stage.Saving Work.Sealed node }
+        requires stage { self.old.core.stage ≡ RunStage.Saving SaveStep.Sealed node }
         ensures run { OnOk result (Keeps D.state self.old self.new) }
         ensures lowers { IfOk result (λ turn. Lowers turn self.old self.new) }
         ensures order { OnOk result (KeepsOrder self.old self.new) }
         ensures told { OnOk result (TellsBy actor.Encoder D.state self.old self.new) }
         ensures full { OnOk result (TellsEachFull actor.Encoder D.state self.old self.new) }
-        ensures refused { OnErr result (self.new.history.events ≡ self.old.history.events) }
-        ensures calm { OnErr result (IsCalm (states_of D.state self.old.bay) (states_of D.state self.new.bay)) }
+        ensures spared { OnErr result (IsAsBefore D.state self.old self.new) }
         ensures accounted { OnOk result (TellsFaults D.state self.old self.new) }
+        ensures placed { OnOk result (IsPlaced self.old.core self.new.core) }
         ensures fixed { IsSameRun D.state self.old self.new }
         ensures still { IfOk result (λ turn. Stays turn self.old self.new) }
         ensures moved { IfOk result (λ turn. turn ≡ Turn.Moved) }
@@ -274,33 +273,37 @@ impl<D: Device> Site<D> {
         };
         let which = m.desc.which;
         self.history.reserve(2)?;
-        self.core.kept.reserve()?;
+        self.core.seal()?;
         match put_gate(&mut self.bay, place, which, node, MemberGate::Sealed) {
             Ok(()) => {
-                self.core.seal()?;
-                self.history.push(Event::Sealing { which })?;
-                self.core.stage = Stage::Saving {
-                    work: Work::SealedSync,
+                let Ok(()) = self.history.push(Event::Sealing { which }) else {
+                    unreachable!()
+                };
+                self.core.stage = RunStage::Saving {
+                    work: SaveStep::SealedSync,
                     node,
                 };
                 Ok(Turn::Moved)
             }
-            Err(trouble) => self.stop_by_fault(trouble),
+            Err(trouble) => {
+                self.core.unseal();
+                self.stop_by_fault(trouble)
+            }
         }
     }
 
     /// A later node's gate `sealed` is opened.
     fn seal_next(&mut self, node: u8) -> Result<Turn, SiteError>
-        requires stage { self.old.core.stage ≡ Stage.Saving Work.Sealed node }
+        requires stage { self.old.core.stage ≡ RunStage.Saving SaveStep.Sealed node }
         requires closed { self.old.core.opened ≡ None }
         ensures run { OnOk result (Keeps D.state self.old self.new) }
         ensures lowers { IfOk result (λ turn. Lowers turn self.old self.new) }
         ensures order { OnOk result (KeepsOrder self.old self.new) }
         ensures told { OnOk result (TellsBy actor.Encoder D.state self.old self.new) }
         ensures full { OnOk result (TellsEachFull actor.Encoder D.state self.old self.new) }
-        ensures refused { OnErr result (self.new.history.events ≡ self.old.history.events) }
-        ensures calm { OnErr result (IsCalm (states_of D.state self.old.bay) (states_of D.state self.new.bay)) }
+        ensures spared { OnErr result (IsAsBefore D.state self.old self.new) }
         ensures accounted { OnOk result (TellsFaults D.state self.old self.new) }
+        ensures placed { OnOk result (IsPlaced self.old.core self.new.core) }
         ensures fixed { IsSameRun D.state self.old self.new }
         ensures still { IfOk result (λ turn. Stays turn self.old self.new) }
         ensures moved { IfOk result (λ turn. turn ≡ Turn.Moved) }
@@ -314,8 +317,8 @@ impl<D: Device> Site<D> {
         self.history.reserve(2)?;
         match put_gate(&mut self.bay, place, which, node, MemberGate::Sealed) {
             Ok(()) => {
-                self.core.stage = Stage::Saving {
-                    work: Work::SealedSync,
+                self.core.stage = RunStage::Saving {
+                    work: SaveStep::SealedSync,
                     node,
                 };
                 Ok(Turn::Moved)
@@ -326,14 +329,14 @@ impl<D: Device> Site<D> {
 
     /// A node's gate `sealed` is made stable; after the last, the dataset is settled.
     fn sync_sealed(&mut self, node: u8) -> Result<Turn, SiteError>
-        requires stage { self.old.core.stage ≡ Stage.Saving Work.SealedSync node }
+        requires stage { self.old.core.stage ≡ RunStage.Saving SaveStep.SealedSync node }
         ensures run { OnOk result (Keeps D.state self.old self.new) }
         ensures lowers { IfOk result (λ turn. Lowers turn self.old self.new) }
         ensures order { OnOk result (KeepsOrder self.old self.new) }
         ensures told { OnOk result (TellsBy actor.Encoder D.state self.old self.new) }
-        ensures refused { OnErr result (self.new.history.events ≡ self.old.history.events) }
-        ensures calm { OnErr result (IsCalm (states_of D.state self.old.bay) (states_of D.state self.new.bay)) }
+        ensures spared { OnErr result (IsAsBefore D.state self.old self.new) }
         ensures accounted { OnOk result (TellsFaults D.state self.old self.new) }
+        ensures placed { OnOk result (IsPlaced self.old.core self.new.core) }
         ensures fixed { IsSameRun D.state self.old self.new }
         ensures still { IfOk result (λ turn. Stays turn self.old self.new) }
         ensures moved { IfOk result (λ turn. turn ≡ Turn.Moved) }
@@ -347,15 +350,15 @@ impl<D: Device> Site<D> {
 
     /// A node's gate `sealed` is made stable, and another node comes.
     fn sync_next(&mut self, node: u8) -> Result<Turn, SiteError>
-        requires stage { self.old.core.stage ≡ Stage.Saving Work.SealedSync node }
+        requires stage { self.old.core.stage ≡ RunStage.Saving SaveStep.SealedSync node }
         requires more { node < self.old.core.shape.nodes - 1 }
         ensures run { OnOk result (Keeps D.state self.old self.new) }
         ensures lowers { IfOk result (λ turn. Lowers turn self.old self.new) }
         ensures order { OnOk result (KeepsOrder self.old self.new) }
         ensures told { OnOk result (TellsBy actor.Encoder D.state self.old self.new) }
-        ensures refused { OnErr result (self.new.history.events ≡ self.old.history.events) }
-        ensures calm { OnErr result (IsCalm (states_of D.state self.old.bay) (states_of D.state self.new.bay)) }
+        ensures spared { OnErr result (IsAsBefore D.state self.old self.new) }
         ensures accounted { OnOk result (TellsFaults D.state self.old self.new) }
+        ensures placed { OnOk result (IsPlaced self.old.core self.new.core) }
         ensures fixed { IsSameRun D.state self.old self.new }
         ensures still { IfOk result (λ turn. Stays turn self.old self.new) }
         ensures moved { IfOk result (λ turn. turn ≡ Turn.Moved) }
@@ -366,8 +369,8 @@ impl<D: Device> Site<D> {
         self.history.reserve(2)?;
         match sync_node(&mut self.bay, place) {
             Ok(()) => {
-                self.core.stage = Stage::Saving {
-                    work: Work::Sealed,
+                self.core.stage = RunStage::Saving {
+                    work: SaveStep::Sealed,
                     node: node + 1,
                 };
                 Ok(Turn::Moved)
@@ -378,15 +381,15 @@ impl<D: Device> Site<D> {
 
     /// The last gate `sealed` is made stable: the dataset is settled.
     fn settle(&mut self, node: u8) -> Result<Turn, SiteError>
-        requires stage { self.old.core.stage ≡ Stage.Saving Work.SealedSync node }
+        requires stage { self.old.core.stage ≡ RunStage.Saving SaveStep.SealedSync node }
         requires last { self.old.core.shape.nodes ≤ node + 1 }
         ensures run { OnOk result (Keeps D.state self.old self.new) }
         ensures lowers { IfOk result (λ turn. Lowers turn self.old self.new) }
         ensures order { OnOk result (KeepsOrder self.old self.new) }
         ensures told { OnOk result (TellsBy actor.Encoder D.state self.old self.new) }
-        ensures refused { OnErr result (self.new.history.events ≡ self.old.history.events) }
-        ensures calm { OnErr result (IsCalm (states_of D.state self.old.bay) (states_of D.state self.new.bay)) }
+        ensures spared { OnErr result (IsAsBefore D.state self.old self.new) }
         ensures accounted { OnOk result (TellsFaults D.state self.old self.new) }
+        ensures placed { OnOk result (IsPlaced self.old.core self.new.core) }
         ensures fixed { IsSameRun D.state self.old self.new }
         ensures still { IfOk result (λ turn. Stays turn self.old self.new) }
         ensures moved { IfOk result (λ turn. turn ≡ Turn.Moved) }
@@ -406,7 +409,9 @@ impl<D: Device> Site<D> {
         self.history.reserve(2)?;
         match sync_node(&mut self.bay, place) {
             Ok(()) => {
-                self.history.push(Event::Settled { which })?;
+                let Ok(()) = self.history.push(Event::Settled { which }) else {
+                    unreachable!()
+                };
                 self.core.settle(which);
                 Ok(Turn::Moved)
             }

@@ -7,39 +7,35 @@ ghost use Rattle.ckpt_model.specs.Answers.{is_fault};
 ghost use Rattle.node_device.specs.Rack.{states_of};
 ghost use Rattle.scr_base.specs.declared.content.Step.TheVariants as step;
 ghost use Rattle.filemap.specs.Rows.{place_of, is_routed};
-ghost use Rattle.site_core.specs.Choosing.{local_verdict_of, rows_at};
+ghost use Rattle.site_state.specs.Choosing.{local_verdict_of, rows_at};
 ghost use Rattle.scr_base.specs.declared.answers.Refusal.{Refusal};
 ghost use Rattle.scr_base.specs.declared.answers.Reply.TheVariants as reply;
-ghost use Rattle.site_core.specs.Causes.{told_trouble, IsCalm};
+ghost use Rattle.site_calls.specs.Causes.{told_trouble};
 ghost use Rattle.site_core.specs.Ahead.{Lowers};
 ghost use Rattle.site_core.specs.Order.{KeepsOrder};
 ghost use Rattle.scr_base.specs.declared.actor.Actor.TheVariants as actor;
-ghost use Rattle.site_core.specs.Follows.{Keeps, TellsBy, TellsEachFull, IsSameRun, Stays, MayTell, TellsFaults};
-ghost use Rattle.site_core.specs.Steps.{IsNextLocal};
+ghost use Rattle.site_core.specs.Follows.{IsAsBefore, Keeps, TellsBy, TellsEachFull, IsSameRun, Stays, MayTell, TellsFaults};
+ghost use Rattle.site_state.specs.Steps.{IsNextLocal};
 
-use crate::core_state::Stage;
-use crate::error::{SiteError, Trouble};
-use crate::file_calls::{get_part, put_part};
 use crate::site::Site;
-use crate::turn::Turn;
-use crate::verdict::end_of;
 use ckpt_model::Event;
 use member_store::part_file_name;
 use node_device::Device;
 use scr_base::{Bytes, Content, Name, Reply, Step, Word};
+use site_calls::{Trouble, get_part, put_part};
+use site_state::{RunStage, SiteError, Turn, end_of};
 
 impl<D: Device> Site<D> {
     /// A rank takes a step of its own.
     pub(crate) fn local(&mut self, rank: u8, step: Step) -> Result<Turn, SiteError>
-        requires stage { self.old.core.stage ≡ Stage.Serving }
+        requires stage { self.old.core.stage ≡ RunStage.Serving }
         requires next { IsNextLocal self.old.programs self.old.core rank step }
         ensures run { OnOk result (Keeps D.state self.old self.new) }
         ensures lowers { IfOk result (λ turn. Lowers turn self.old self.new) }
         ensures order { OnOk result (KeepsOrder self.old self.new) }
         ensures told { OnOk result (TellsBy (actor.Rank rank) D.state self.old self.new) }
         ensures full { OnOk result (TellsEachFull (actor.Rank rank) D.state self.old self.new) }
-        ensures refused { OnErr result (self.new.history.events ≡ self.old.history.events) }
-        ensures calm { OnErr result (IsCalm (states_of D.state self.old.bay) (states_of D.state self.new.bay)) }
+        ensures spared { OnErr result (IsAsBefore D.state self.old self.new) }
         ensures accounted { OnOk result (TellsFaults D.state self.old self.new) }
         ensures fixed { IsSameRun D.state self.old self.new }
         ensures still { IfOk result (λ turn. Stays turn self.old self.new) }
@@ -54,7 +50,7 @@ impl<D: Device> Site<D> {
 
     /// A step that nothing speaks against.
     fn do_local(&mut self, rank: u8, step: Step) -> Result<Turn, SiteError>
-        requires stage { self.old.core.stage ≡ Stage.Serving }
+        requires stage { self.old.core.stage ≡ RunStage.Serving }
         requires next { IsNextLocal self.old.programs self.old.core rank step }
         requires clear { local_verdict_of self.old.core rank step ≡ None }
         ensures run { OnOk result (Keeps D.state self.old self.new) }
@@ -62,8 +58,7 @@ impl<D: Device> Site<D> {
         ensures order { OnOk result (KeepsOrder self.old self.new) }
         ensures told { OnOk result (TellsBy (actor.Rank rank) D.state self.old self.new) }
         ensures full { OnOk result (TellsEachFull (actor.Rank rank) D.state self.old self.new) }
-        ensures refused { OnErr result (self.new.history.events ≡ self.old.history.events) }
-        ensures calm { OnErr result (IsCalm (states_of D.state self.old.bay) (states_of D.state self.new.bay)) }
+        ensures spared { OnErr result (IsAsBefore D.state self.old self.new) }
         ensures accounted { OnOk result (TellsFaults D.state self.old self.new) }
         ensures fixed { IsSameRun D.state self.old self.new }
         ensures still { IfOk result (λ turn. Stays turn self.old self.new) }
@@ -108,7 +103,7 @@ impl<D: Device> Site<D> {
         requires room { 2 ≤ self.old.history.spare }
         ensures events { OnOk result ((seat : Seat) → slice_get self.old.core.ranks rank ≡ Some seat → (refusal : Refusal) × (told_trouble trouble ≡ Some refusal) × (self.new.history.events ≡ self.old.history.events ++ event.Local rank (seat.number + 1) step (reply.Refused refusal) ∷ [])) }
         ensures core { OnOk result ((seat : Seat) → slice_get self.old.core.ranks rank ≡ Some seat → self.new.core ≡ record self.old.core { ranks = slice_set self.old.core.ranks rank (stepped seat) }) }
-        ensures lowers { self.old.core.stage ≡ Stage.Serving → IsNextLocal self.old.programs self.old.core rank step → IfOk result (λ turn. Lowers turn self.old self.new) }
+        ensures lowers { self.old.core.stage ≡ RunStage.Serving → IsNextLocal self.old.programs self.old.core rank step → IfOk result (λ turn. Lowers turn self.old self.new) }
         ensures order { IsNextLocal self.old.programs self.old.core rank step → OnOk result (KeepsOrder self.old self.new) }
         ensures moved { IfOk result (λ turn. turn ≡ Turn.Moved) }
         ensures memory { OnErr result (trouble ≡ Trouble.Memory) }
@@ -123,7 +118,7 @@ impl<D: Device> Site<D> {
 
     /// The step is told with its answer; no file is changed.
     fn tell_local(&mut self, rank: u8, step: Step, answer: Reply) -> Result<Turn, SiteError>
-        requires stage { self.old.core.stage ≡ Stage.Serving }
+        requires stage { self.old.core.stage ≡ RunStage.Serving }
         requires next { IsNextLocal self.old.programs self.old.core rank step }
         requires steps { MayTell D.state self.old rank step answer }
         requires calm { is_fault answer ≡ false }
@@ -131,8 +126,7 @@ impl<D: Device> Site<D> {
         ensures lowers { IfOk result (λ turn. Lowers turn self.old self.new) }
         ensures order { OnOk result (KeepsOrder self.old self.new) }
         ensures told { OnOk result (TellsBy (actor.Rank rank) D.state self.old self.new) }
-        ensures refused { OnErr result (self.new.history.events ≡ self.old.history.events) }
-        ensures calm { OnErr result (IsCalm (states_of D.state self.old.bay) (states_of D.state self.new.bay)) }
+        ensures spared { OnErr result (IsAsBefore D.state self.old self.new) }
         ensures accounted { OnOk result (TellsFaults D.state self.old self.new) }
         ensures fixed { IsSameRun D.state self.old self.new }
         ensures still { IfOk result (λ turn. Stays turn self.old self.new) }
@@ -145,7 +139,7 @@ impl<D: Device> Site<D> {
 
     /// The file of this name gets its number, or has it.
     fn route(&mut self, rank: u8, word: Word) -> Result<Turn, SiteError>
-        requires stage { self.old.core.stage ≡ Stage.Serving }
+        requires stage { self.old.core.stage ≡ RunStage.Serving }
         requires next { IsNextLocal self.old.programs self.old.core rank (step.Route word) }
         requires clear { local_verdict_of self.old.core rank (step.Route word) ≡ None }
         ensures run { OnOk result (Keeps D.state self.old self.new) }
@@ -153,8 +147,7 @@ impl<D: Device> Site<D> {
         ensures order { OnOk result (KeepsOrder self.old self.new) }
         ensures told { OnOk result (TellsBy (actor.Rank rank) D.state self.old self.new) }
         ensures full { OnOk result (TellsEachFull (actor.Rank rank) D.state self.old self.new) }
-        ensures refused { OnErr result (self.new.history.events ≡ self.old.history.events) }
-        ensures calm { OnErr result (IsCalm (states_of D.state self.old.bay) (states_of D.state self.new.bay)) }
+        ensures spared { OnErr result (IsAsBefore D.state self.old self.new) }
         ensures accounted { OnOk result (TellsFaults D.state self.old self.new) }
         ensures fixed { IsSameRun D.state self.old self.new }
         ensures still { IfOk result (λ turn. Stays turn self.old self.new) }
@@ -169,7 +162,7 @@ impl<D: Device> Site<D> {
 
     /// The file has its number.
     fn route_again(&mut self, rank: u8, word: Word) -> Result<Turn, SiteError>
-        requires stage { self.old.core.stage ≡ Stage.Serving }
+        requires stage { self.old.core.stage ≡ RunStage.Serving }
         requires next { IsNextLocal self.old.programs self.old.core rank (step.Route word) }
         requires clear { local_verdict_of self.old.core rank (step.Route word) ≡ None }
         requires there { is_routed (rows_at self.old.core rank) word ≡ true }
@@ -177,8 +170,7 @@ impl<D: Device> Site<D> {
         ensures lowers { IfOk result (λ turn. Lowers turn self.old self.new) }
         ensures order { OnOk result (KeepsOrder self.old self.new) }
         ensures told { OnOk result (TellsBy (actor.Rank rank) D.state self.old self.new) }
-        ensures refused { OnErr result (self.new.history.events ≡ self.old.history.events) }
-        ensures calm { OnErr result (IsCalm (states_of D.state self.old.bay) (states_of D.state self.new.bay)) }
+        ensures spared { OnErr result (IsAsBefore D.state self.old self.new) }
         ensures accounted { OnOk result (TellsFaults D.state self.old self.new) }
         ensures fixed { IsSameRun D.state self.old self.new }
         ensures still { IfOk result (λ turn. Stays turn self.old self.new) }
@@ -194,7 +186,7 @@ impl<D: Device> Site<D> {
 
     /// The file is made, empty.
     fn route_new(&mut self, rank: u8, word: Word) -> Result<Turn, SiteError>
-        requires stage { self.old.core.stage ≡ Stage.Serving }
+        requires stage { self.old.core.stage ≡ RunStage.Serving }
         requires next { IsNextLocal self.old.programs self.old.core rank (step.Route word) }
         requires clear { local_verdict_of self.old.core rank (step.Route word) ≡ None }
         requires new { is_routed (rows_at self.old.core rank) word ≡ false }
@@ -203,8 +195,7 @@ impl<D: Device> Site<D> {
         ensures order { OnOk result (KeepsOrder self.old self.new) }
         ensures told { OnOk result (TellsBy (actor.Rank rank) D.state self.old self.new) }
         ensures full { OnOk result (TellsEachFull (actor.Rank rank) D.state self.old self.new) }
-        ensures refused { OnErr result (self.new.history.events ≡ self.old.history.events) }
-        ensures calm { OnErr result (IsCalm (states_of D.state self.old.bay) (states_of D.state self.new.bay)) }
+        ensures spared { OnErr result (IsAsBefore D.state self.old self.new) }
         ensures accounted { OnOk result (TellsFaults D.state self.old self.new) }
         ensures fixed { IsSameRun D.state self.old self.new }
         ensures still { IfOk result (λ turn. Stays turn self.old self.new) }
@@ -219,6 +210,7 @@ impl<D: Device> Site<D> {
             return Err(SiteError::Memory);
         };
         self.history.reserve(2)?;
+        self.core.route(rank, &name)?;
         match put_part(
             &mut self.bay,
             spot.place,
@@ -229,17 +221,19 @@ impl<D: Device> Site<D> {
             &[],
         ) {
             Ok(()) => {
-                self.core.route(rank, &name)?;
                 self.go_past(rank, Step::Route { name: word }, Reply::Routed { part });
                 Ok(Turn::Moved)
             }
-            Err(trouble) => self.refuse_local(rank, Step::Route { name: word }, trouble),
+            Err(trouble) => {
+                self.core.unroute(rank);
+                self.refuse_local(rank, Step::Route { name: word }, trouble)
+            }
         }
     }
 
     /// The file is written to.
     fn write(&mut self, rank: u8, word: Word, at: u32, content: Content) -> Result<Turn, SiteError>
-        requires stage { self.old.core.stage ≡ Stage.Serving }
+        requires stage { self.old.core.stage ≡ RunStage.Serving }
         requires next { IsNextLocal self.old.programs self.old.core rank (step.Write word at content) }
         requires clear { local_verdict_of self.old.core rank (step.Write word at content) ≡ None }
         ensures run { OnOk result (Keeps D.state self.old self.new) }
@@ -247,8 +241,7 @@ impl<D: Device> Site<D> {
         ensures order { OnOk result (KeepsOrder self.old self.new) }
         ensures told { OnOk result (TellsBy (actor.Rank rank) D.state self.old self.new) }
         ensures full { OnOk result (TellsEachFull (actor.Rank rank) D.state self.old self.new) }
-        ensures refused { OnErr result (self.new.history.events ≡ self.old.history.events) }
-        ensures calm { OnErr result (IsCalm (states_of D.state self.old.bay) (states_of D.state self.new.bay)) }
+        ensures spared { OnErr result (IsAsBefore D.state self.old self.new) }
         ensures accounted { OnOk result (TellsFaults D.state self.old self.new) }
         ensures fixed { IsSameRun D.state self.old self.new }
         ensures still { IfOk result (λ turn. Stays turn self.old self.new) }
@@ -258,9 +251,12 @@ impl<D: Device> Site<D> {
         let Some(spot) = self.core.spot(rank, file) else {
             return Err(SiteError::Memory);
         };
+        let end = end_of(at, &content, rank);
+        if !self.core.may_extend(rank, file, end) {
+            return Err(SiteError::Memory);
+        }
         let bytes = content.bytes_for(self.alloc, rank)?;
         self.history.reserve(2)?;
-        let end = end_of(at, &content, rank);
         let step = Step::Write {
             name: word,
             at,
@@ -276,7 +272,7 @@ impl<D: Device> Site<D> {
             bytes.list(),
         ) {
             Ok(()) => {
-                self.core.extend(rank, file, end)?;
+                self.core.extend(rank, file, end);
                 self.go_past(rank, step, Reply::Done);
                 Ok(Turn::Moved)
             }
@@ -286,15 +282,14 @@ impl<D: Device> Site<D> {
 
     /// The file's bytes are read; no read finds a device full.
     fn read(&mut self, rank: u8, word: Word, at: u32, len: u32) -> Result<Turn, SiteError>
-        requires stage { self.old.core.stage ≡ Stage.Serving }
+        requires stage { self.old.core.stage ≡ RunStage.Serving }
         requires next { IsNextLocal self.old.programs self.old.core rank (step.Read word at len) }
         requires clear { local_verdict_of self.old.core rank (step.Read word at len) ≡ None }
         ensures run { OnOk result (Keeps D.state self.old self.new) }
         ensures lowers { IfOk result (λ turn. Lowers turn self.old self.new) }
         ensures order { OnOk result (KeepsOrder self.old self.new) }
         ensures told { OnOk result (TellsBy (actor.Rank rank) D.state self.old self.new) }
-        ensures refused { OnErr result (self.new.history.events ≡ self.old.history.events) }
-        ensures calm { OnErr result (IsCalm (states_of D.state self.old.bay) (states_of D.state self.new.bay)) }
+        ensures spared { OnErr result (IsAsBefore D.state self.old self.new) }
         ensures accounted { OnOk result (TellsFaults D.state self.old self.new) }
         ensures fixed { IsSameRun D.state self.old self.new }
         ensures still { IfOk result (λ turn. Stays turn self.old self.new) }

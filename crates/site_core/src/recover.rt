@@ -2,29 +2,25 @@
 ghost use Rattle.std.specs.Prelude.{◌≡◌, ◌+◌, ◌<◌, ◌≤◌, ◌^◌, length, IfOk, OnOk, OnErr, [], ◌++◌, ◌∷◌, map, filter};
 ghost use Rattle.node_device.specs.Rack.{states_of};
 ghost use Rattle.ckpt_model.specs.declared.event.Event.TheVariants as event;
-ghost use Rattle.site_core.specs.Shown.{row_of};
-ghost use Rattle.site_core.specs.Cores.{recovered, seen_core};
-ghost use Rattle.site_core.specs.Looks.{is_standing, found_member};
-ghost use Rattle.site_core.specs.Waiting.{recoverer_turn};
-ghost use Rattle.site_core.specs.Calls.{Tells};
+ghost use Rattle.site_state.specs.Shown.{row_of};
+ghost use Rattle.site_state.specs.Cores.{recovered, seen_core};
+ghost use Rattle.site_state.specs.Looks.{is_standing, found_member};
+ghost use Rattle.site_state.specs.Waiting.{recoverer_turn};
+ghost use Rattle.site_calls.specs.Calls.{Tells};
 ghost use Rattle.site_core.specs.Stored.{cells_of, stored_run};
 ghost use Rattle.site_core.specs.Ahead.{Lowers};
 ghost use Rattle.site_core.specs.Order.{KeepsOrder};
 ghost use Rattle.scr_base.specs.declared.actor.Actor.TheVariants as actor;
-ghost use Rattle.site_core.specs.Follows.{Keeps, TellsBy, TellsEachFull, IsSameRun, Stays, TellsFaults};
-ghost use Rattle.site_core.specs.Causes.{IsCalm};
+ghost use Rattle.site_core.specs.Follows.{IsAsBefore, Keeps, TellsBy, TellsEachFull, IsSameRun, Stays, TellsFaults};
 
-use crate::cache::Cache;
-use crate::core_state::Stage;
-use crate::error::SiteError;
 use crate::events::push;
-use crate::file_calls::{halt_now, last_run, members_at, store_number};
 use crate::site::Site;
-use crate::turn::{Turn, Why};
 use ckpt_model::{EntryRow, Event, StopCause};
 use member_store::Member;
 use node_device::Device;
 use scr_base::Items;
+use site_calls::{halt_now, last_run, members_at, store_number};
+use site_state::{Cache, RunStage, SiteError, Turn, Why};
 use std::alloc::Global;
 
 /// The index of a site that flushes nothing.
@@ -42,34 +38,33 @@ impl<D: Device> Site<D> {
         ensures order { OnOk result (KeepsOrder self.old self.new) }
         ensures told { OnOk result (TellsBy actor.Recoverer D.state self.old self.new) }
         ensures full { OnOk result (TellsEachFull actor.Recoverer D.state self.old self.new) }
-        ensures refused { OnErr result (self.new.history.events ≡ self.old.history.events) }
-        ensures calm { OnErr result (IsCalm (states_of D.state self.old.bay) (states_of D.state self.new.bay)) }
+        ensures spared { OnErr result (IsAsBefore D.state self.old self.new) }
         ensures accounted { OnOk result (TellsFaults D.state self.old self.new) }
         ensures fixed { IsSameRun D.state self.old self.new }
         ensures still { IfOk result (λ turn. Stays turn self.old self.new) }
         ensures waits { IfOk result (λ turn. turn ≡ recoverer_turn self.old.core.stage) }
     {
         match self.core.stage {
-            Stage::Begun => self.begin_run(),
-            Stage::Storing => self.store(),
-            Stage::Looking => self.look(),
-            Stage::Mending => self.mend(),
-            Stage::Serving | Stage::Saving { .. } | Stage::Dropping { .. } | Stage::Dropped => {
-                Ok(Turn::NotYet { why: Why::Idle })
-            }
-            Stage::Over => Ok(Turn::Ended),
+            RunStage::Begun => self.begin_run(),
+            RunStage::Storing => self.store(),
+            RunStage::Looking => self.look(),
+            RunStage::Mending => self.mend(),
+            RunStage::Serving
+            | RunStage::Saving { .. }
+            | RunStage::Dropping { .. }
+            | RunStage::Dropped => { Ok(Turn::NotYet { why: Why::Idle }) }
+            RunStage::Over => Ok(Turn::Ended),
         }
     }
 
     /// The number of the run is found; or the run is over where there is none.
     fn begin_run(&mut self) -> Result<Turn, SiteError>
-        requires { self.old.core.stage ≡ Stage.Begun }
+        requires { self.old.core.stage ≡ RunStage.Begun }
         ensures run { OnOk result (Keeps D.state self.old self.new) }
         ensures lowers { IfOk result (λ turn. Lowers turn self.old self.new) }
         ensures order { OnOk result (KeepsOrder self.old self.new) }
         ensures told { OnOk result (TellsBy actor.Recoverer D.state self.old self.new) }
-        ensures refused { OnErr result (self.new.history.events ≡ self.old.history.events) }
-        ensures calm { OnErr result (IsCalm (states_of D.state self.old.bay) (states_of D.state self.new.bay)) }
+        ensures spared { OnErr result (IsAsBefore D.state self.old self.new) }
         ensures accounted { OnOk result (TellsFaults D.state self.old self.new) }
         ensures fixed { IsSameRun D.state self.old self.new }
         ensures still { IfOk result (λ turn. Stays turn self.old self.new) }
@@ -84,15 +79,14 @@ impl<D: Device> Site<D> {
 
     /// The run has the number after the last one; or it is over where there is none.
     fn take_number(&mut self, last: u32) -> Result<Turn, SiteError>
-        requires stage { self.old.core.stage ≡ Stage.Begun }
+        requires stage { self.old.core.stage ≡ RunStage.Begun }
         requires last { Tells (states_of D.state self.old.bay) → last ≡ stored_run (cells_of (states_of D.state self.old.bay)) }
         requires room { 2 ≤ self.old.history.spare }
         ensures run { OnOk result (Keeps D.state self.old self.new) }
         ensures lowers { IfOk result (λ turn. Lowers turn self.old self.new) }
         ensures order { OnOk result (KeepsOrder self.old self.new) }
         ensures told { OnOk result (TellsBy actor.Recoverer D.state self.old self.new) }
-        ensures refused { OnErr result (self.new.history.events ≡ self.old.history.events) }
-        ensures calm { OnErr result (IsCalm (states_of D.state self.old.bay) (states_of D.state self.new.bay)) }
+        ensures spared { OnErr result (IsAsBefore D.state self.old self.new) }
         ensures accounted { OnOk result (TellsFaults D.state self.old self.new) }
         ensures fixed { IsSameRun D.state self.old self.new }
         ensures still { IfOk result (λ turn. Stays turn self.old self.new) }
@@ -107,7 +101,7 @@ impl<D: Device> Site<D> {
 
     /// The conditions on which the job is to stop are read, and the run has the number after the last one.
     fn take_halt(&mut self, last: u32) -> Result<Turn, SiteError>
-        requires stage { self.old.core.stage ≡ Stage.Begun }
+        requires stage { self.old.core.stage ≡ RunStage.Begun }
         requires last { Tells (states_of D.state self.old.bay) → last ≡ stored_run (cells_of (states_of D.state self.old.bay)) }
         requires more { last < 4294967295 }
         requires room { 2 ≤ self.old.history.spare }
@@ -115,8 +109,7 @@ impl<D: Device> Site<D> {
         ensures lowers { IfOk result (λ turn. Lowers turn self.old self.new) }
         ensures order { OnOk result (KeepsOrder self.old self.new) }
         ensures told { OnOk result (TellsBy actor.Recoverer D.state self.old self.new) }
-        ensures refused { OnErr result (self.new.history.events ≡ self.old.history.events) }
-        ensures calm { OnErr result (IsCalm (states_of D.state self.old.bay) (states_of D.state self.new.bay)) }
+        ensures spared { OnErr result (IsAsBefore D.state self.old self.new) }
         ensures accounted { OnOk result (TellsFaults D.state self.old self.new) }
         ensures fixed { IsSameRun D.state self.old self.new }
         ensures still { IfOk result (λ turn. Stays turn self.old self.new) }
@@ -133,15 +126,14 @@ impl<D: Device> Site<D> {
 
     /// There is no number left for a run.
     fn run_out_of_numbers(&mut self) -> Result<Turn, SiteError>
-        requires stage { self.old.core.stage ≡ Stage.Begun }
+        requires stage { self.old.core.stage ≡ RunStage.Begun }
         requires last { Tells (states_of D.state self.old.bay) → stored_run (cells_of (states_of D.state self.old.bay)) ≡ 4294967295 }
         ensures bay { self.new.bay ≡ self.old.bay }
         ensures run { OnOk result (Keeps D.state self.old self.new) }
         ensures lowers { IfOk result (λ turn. Lowers turn self.old self.new) }
         ensures order { OnOk result (KeepsOrder self.old self.new) }
         ensures told { OnOk result (TellsBy actor.Recoverer D.state self.old self.new) }
-        ensures refused { OnErr result (self.new.history.events ≡ self.old.history.events) }
-        ensures calm { OnErr result (IsCalm (states_of D.state self.old.bay) (states_of D.state self.new.bay)) }
+        ensures spared { OnErr result (IsAsBefore D.state self.old self.new) }
         ensures accounted { OnOk result (TellsFaults D.state self.old self.new) }
         ensures fixed { IsSameRun D.state self.old self.new }
         ensures still { IfOk result (λ turn. Stays turn self.old self.new) }
@@ -153,20 +145,19 @@ impl<D: Device> Site<D> {
                 cause: StopCause::Runs,
             },
         )?;
-        self.core.stage = Stage::Over;
+        self.core.stage = RunStage::Over;
         Ok(Turn::Moved)
     }
 
     /// The run's number comes on its way to the prefix by one change; once it is stable, the run is told.
     fn store(&mut self) -> Result<Turn, SiteError>
-        requires { self.old.core.stage ≡ Stage.Storing }
+        requires { self.old.core.stage ≡ RunStage.Storing }
         ensures run { OnOk result (Keeps D.state self.old self.new) }
         ensures lowers { IfOk result (λ turn. Lowers turn self.old self.new) }
         ensures order { OnOk result (KeepsOrder self.old self.new) }
         ensures told { OnOk result (TellsBy actor.Recoverer D.state self.old self.new) }
         ensures full { OnOk result (TellsEachFull actor.Recoverer D.state self.old self.new) }
-        ensures refused { OnErr result (self.new.history.events ≡ self.old.history.events) }
-        ensures calm { OnErr result (IsCalm (states_of D.state self.old.bay) (states_of D.state self.new.bay)) }
+        ensures spared { OnErr result (IsAsBefore D.state self.old self.new) }
         ensures accounted { OnOk result (TellsFaults D.state self.old self.new) }
         ensures fixed { IsSameRun D.state self.old self.new }
         ensures still { IfOk result (λ turn. Stays turn self.old self.new) }
@@ -179,11 +170,14 @@ impl<D: Device> Site<D> {
                 if !over {
                     return Ok(Turn::Moved);
                 }
-                self.history.push(Event::Run {
+                let Ok(()) = self.history.push(Event::Run {
                     run: self.core.run,
                     places,
-                })?;
-                self.core.stage = Stage::Looking;
+                })
+                else {
+                    unreachable!()
+                };
+                self.core.stage = RunStage::Looking;
                 Ok(Turn::Moved)
             }
             Err(trouble) => self.stop_by(trouble),
@@ -192,13 +186,12 @@ impl<D: Device> Site<D> {
 
     /// The records are read, and what was found is told.
     fn look(&mut self) -> Result<Turn, SiteError>
-        requires { self.old.core.stage ≡ Stage.Looking }
+        requires { self.old.core.stage ≡ RunStage.Looking }
         ensures run { OnOk result (Keeps D.state self.old self.new) }
         ensures lowers { IfOk result (λ turn. Lowers turn self.old self.new) }
         ensures order { OnOk result (KeepsOrder self.old self.new) }
         ensures told { OnOk result (TellsBy actor.Recoverer D.state self.old self.new) }
-        ensures refused { OnErr result (self.new.history.events ≡ self.old.history.events) }
-        ensures calm { OnErr result (IsCalm (states_of D.state self.old.bay) (states_of D.state self.new.bay)) }
+        ensures spared { OnErr result (IsAsBefore D.state self.old self.new) }
         ensures accounted { OnOk result (TellsFaults D.state self.old self.new) }
         ensures fixed { IsSameRun D.state self.old self.new }
         ensures still { IfOk result (λ turn. Stays turn self.old self.new) }
@@ -217,11 +210,11 @@ impl<D: Device> Site<D> {
     /// What the records told is found, and told.
     fn find(&mut self, members: Vec<Member>) -> Result<Turn, SiteError>
         ensures found { OnOk result (self.new.core ≡ recovered (seen_core self.old.core (map found_member (filter is_standing members.items)))) }
-        ensures lowers { self.old.core.stage ≡ Stage.Looking → IfOk result (λ turn. Lowers turn self.old self.new) }
+        ensures lowers { self.old.core.stage ≡ RunStage.Looking → IfOk result (λ turn. Lowers turn self.old self.new) }
         ensures order { OnOk result (KeepsOrder self.old self.new) }
         ensures events { OnOk result (self.new.history.events ≡ self.old.history.events ++ event.Found (map row_of (map found_member (filter is_standing members.items))) [] ∷ []) }
         ensures moved { IfOk result (λ turn. turn ≡ Turn.Moved) }
-        ensures refused { OnErr result (self.new.history.events ≡ self.old.history.events) }
+        ensures spared { OnErr result (IsAsBefore D.state self.old self.new) }
         ensures fixed { IsSameRun D.state self.old self.new }
         ensures bay { self.new.bay ≡ self.old.bay }
     {
@@ -239,13 +232,12 @@ impl<D: Device> Site<D> {
 
     /// A dataset that was found is looked after: nothing of it is lost.
     fn mend(&mut self) -> Result<Turn, SiteError>
-        requires { self.old.core.stage ≡ Stage.Mending }
+        requires { self.old.core.stage ≡ RunStage.Mending }
         ensures run { OnOk result (Keeps D.state self.old self.new) }
         ensures lowers { IfOk result (λ turn. Lowers turn self.old self.new) }
         ensures order { OnOk result (KeepsOrder self.old self.new) }
         ensures told { OnOk result (TellsBy actor.Recoverer D.state self.old self.new) }
-        ensures refused { OnErr result (self.new.history.events ≡ self.old.history.events) }
-        ensures calm { OnErr result (IsCalm (states_of D.state self.old.bay) (states_of D.state self.new.bay)) }
+        ensures spared { OnErr result (IsAsBefore D.state self.old self.new) }
         ensures accounted { OnOk result (TellsFaults D.state self.old self.new) }
         ensures fixed { IsSameRun D.state self.old self.new }
         ensures still { IfOk result (λ turn. Stays turn self.old self.new) }

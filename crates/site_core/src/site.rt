@@ -5,26 +5,22 @@ ghost use Rattle.node_device.specs.Calls.{Crashes};
 ghost use Rattle.ckpt_model.specs.Machine.{Machine, Setup};
 ghost use Rattle.ckpt_model.specs.declared.event.StopCause.{StopCause};
 ghost use Rattle.site_stands.specs.Site.{IsSafeToStop, StandsAfterStop};
-ghost use Rattle.site_core.specs.Calls.{Tells};
-ghost use Rattle.site_core.specs.Follows.{Counts};
+ghost use Rattle.site_calls.specs.Calls.{Tells};
+ghost use Rattle.site_core.specs.Follows.{IsAsBefore, Counts};
 
-use crate::cache::Cache;
-use crate::core_state::{Core, Stage};
-use crate::error::SiteError;
-use crate::programs::Programs;
-use crate::storing::Storing;
-use crate::turn::{Turn, Why};
 use ckpt_model::{Event, History, StopCause};
 use node_device::{Bay, Device};
 use round_core::Round;
 use scr_base::{Actor, Bytes, Config, Phase, Shape, Step};
+use site_calls::Storing;
+use site_state::{Cache, Programs, RunStage, RunState, SiteError, Turn, Why};
 use std::alloc::Global;
 
 /// A run of a site. It owns the bay while the run goes on.
 #[derive(Drop)]
 pub struct Site<D> {
     pub(crate) alloc: Global,
-    pub(crate) core: Core,
+    pub(crate) core: RunState,
     pub(crate) programs: Programs,
     pub(crate) bay: Bay<D>,
     pub(crate) history: History,
@@ -71,18 +67,19 @@ impl<D: Device> Site<D> {
     ghost use Rattle.scr_base.specs.Sets.{numbers_below};
     ghost use Rattle.node_device.specs.Rack.{states_of};
     ghost use Rattle.ckpt_model.specs.Machine.{Machine};
-    ghost use Rattle.site_core.specs.Shown.{setup_of};
-    ghost use Rattle.site_core.specs.Waiting.{turn_of, flusher_turn};
-    ghost use Rattle.site_core.specs.Asking.{program_of, takes_steps, lengthened, IsWithinLimit};
+    ghost use Rattle.site_state.specs.Shown.{setup_of};
+    ghost use Rattle.site_state.specs.Waiting.{turn_of, flusher_turn};
+    ghost use Rattle.site_state.specs.Asking.{program_of, takes_steps, lengthened, IsWithinLimit};
     ghost use Rattle.site_core.specs.Ahead.{Lowers};
-    ghost use Rattle.site_core.specs.Order.{IsInOrder, KeepsOrder};
-    ghost use Rattle.site_core.specs.Causes.{IsCalm};
+    ghost use Rattle.site_state.specs.Order.{IsInOrder};
+    ghost use Rattle.site_core.specs.Order.{KeepsOrder};
     ghost use Rattle.scr_base.specs.Sets.{fits_sets};
     ghost use Rattle.site_stands.specs.Site.{Stands};
-    ghost use Rattle.site_core.specs.Calls.{Tells};
-    ghost use Rattle.site_core.specs.Holds.{CanBegin, Closes};
+    ghost use Rattle.site_calls.specs.Calls.{Tells};
+    ghost use Rattle.site_core.specs.Holds.{CanBegin, Closes, IsUnderWay};
     ghost use Rattle.site_core.specs.Faults.{IsAccounted};
-    ghost use Rattle.site_core.specs.Follows.{Keeps, KeepsRun, IsRunFrom, HasStopped, TellsBy, TellsEachFull, AccountsBy, IsActor, IsSameRun, IsHalted, KeepsCarried, Stays, Counts};
+    ghost use Rattle.site_core.specs.Follows.{PlacesBy, Keeps, KeepsRun, IsRunFrom, HasStopped, TellsBy, TellsEachFull, AccountsBy, IsSameRun, IsHalted, KeepsCarried, Stays, Counts};
+    ghost use Rattle.site_state.specs.Order.{IsActor};
 
     /// Begins a run over a bay, which it leaves as it is. The bay comes back where there is no memory. The places are those of
     /// the nodes in their order, each rank has a program, and the scheme fits the site's sets.
@@ -114,7 +111,7 @@ impl<D: Device> Site<D> {
         if history.reserve(1).is_err() {
             return Err(Unbegun { bay });
         }
-        let Ok(core) = Core::new(alloc, shape, config, places) else {
+        let Ok(core) = RunState::new(alloc, shape, config, places) else {
             return Err(Unbegun { bay });
         };
         Ok(Site {
@@ -130,20 +127,19 @@ impl<D: Device> Site<D> {
     /// Lets an actor take its turn: at most one change to one device, and at most one event.
     pub fn turn(&mut self, actor: Actor) -> Result<Turn, SiteError>
         requires { IsActor (length self.old.core.ranks) actor }
-        ensures run { OnOk result (KeepsRun D.state self.old self.new) }
+        ensures run { KeepsRun D.state self.old self.new }
         ensures lowers { IfOk result (λ turn. Lowers turn self.old self.new) }
         ensures order { OnOk result (KeepsOrder self.old self.new) }
         ensures told { OnOk result (TellsBy actor D.state self.old self.new) }
         ensures full { OnOk result (TellsEachFull actor D.state self.old self.new) }
-        ensures refused { OnErr result (self.new.history.events ≡ self.old.history.events) }
-        ensures calm { OnErr result (IsCalm (states_of D.state self.old.bay) (states_of D.state self.new.bay)) }
+        ensures spared { OnErr result (IsAsBefore D.state self.old self.new) }
         ensures accounted { OnOk result (AccountsBy actor D.state self.old self.new) }
+        ensures placed { OnOk result (PlacesBy actor self.old.core self.new.core) }
         ensures kept { OnOk result (KeepsCarried self.old self.new) }
         ensures fixed { IsSameRun D.state self.old self.new }
         ensures still { IfOk result (λ turn. Stays turn self.old self.new) }
         ensures waits { IfOk result (λ turn. turn ≡ turn_of self.old.core self.old.programs actor) }
         ensures counts { IfOk result (λ turn. Counts turn self.old.moves self.new.moves) }
-        ensures uncounted { OnErr result (self.new.moves ≡ self.old.moves) }
     {
         let moves = self.moves;
         if moves == u64::MAX {
@@ -162,9 +158,9 @@ impl<D: Device> Site<D> {
         ensures order { OnOk result (KeepsOrder self.old self.new) }
         ensures told { OnOk result (TellsBy actor D.state self.old self.new) }
         ensures full { OnOk result (TellsEachFull actor D.state self.old self.new) }
-        ensures refused { OnErr result (self.new.history.events ≡ self.old.history.events) }
-        ensures calm { OnErr result (IsCalm (states_of D.state self.old.bay) (states_of D.state self.new.bay)) }
+        ensures spared { OnErr result (IsAsBefore D.state self.old self.new) }
         ensures accounted { OnOk result (AccountsBy actor D.state self.old self.new) }
+        ensures placed { OnOk result (PlacesBy actor self.old.core self.new.core) }
         ensures kept { OnOk result (KeepsCarried self.old self.new) }
         ensures fixed { IsSameRun D.state self.old self.new }
         ensures still { IfOk result (λ turn. Stays turn self.old self.new) }
@@ -184,16 +180,30 @@ impl<D: Device> Site<D> {
         ensures { result ≡ flusher_turn self.now.core.stage }
     {
         match self.core.stage {
-            Stage::Begun
-            | Stage::Storing
-            | Stage::Looking
-            | Stage::Mending
-            | Stage::Serving
-            | Stage::Saving { .. }
-            | Stage::Dropping { .. }
-            | Stage::Dropped => Turn::NotYet { why: Why::Idle },
-            Stage::Over => Turn::Ended,
+            RunStage::Begun
+            | RunStage::Storing
+            | RunStage::Looking
+            | RunStage::Mending
+            | RunStage::Serving
+            | RunStage::Saving { .. }
+            | RunStage::Dropping { .. }
+            | RunStage::Dropped => Turn::NotYet { why: Why::Idle },
+            RunStage::Over => Turn::Ended,
         }
+    }
+
+    /// How many ranks the site has.
+    pub fn ranks(&self) -> u8
+        ensures { result ≡ self.now.core.shape.nodes * self.now.core.shape.ranks }
+    {
+        self.core.shape.nodes * self.core.shape.ranks
+    }
+
+    /// How many steps the rank's program has.
+    pub fn steps(&self, rank: u8) -> usize
+        ensures { result ≡ length (program_of self.now.programs rank) }
+    {
+        self.programs.steps(rank)
     }
 
     /// Whether the rank's program doesn't end with End.
@@ -236,7 +246,7 @@ impl<D: Device> Site<D> {
         let Ok(()) = self.history.push(event) else {
             return;
         };
-        self.core.stage = Stage::Over;
+        self.core.stage = RunStage::Over;
     }
 
     /// How many turns moved.
@@ -257,13 +267,15 @@ impl<D: Device> Site<D> {
     pub fn stopped(&self) -> bool
         ensures { result ≡ true ↔ HasStopped self.now }
     {
-        matches!(self.core.stage, Stage::Over)
+        matches!(self.core.stage, RunStage::Over)
     }
 
-    /// Hands the history and the bay back.
+    /// Hands the history and the bay back, at any time. The events of a run that isn't over lead to a state for which the devices stand, and
+    /// a stop from outside is safe there.
     pub fn close(self) -> Closed<D>
         ensures history { result.history ≡ self.history }
         ensures bay { result.bay ≡ self.bay }
+        ensures under_way { (first : Machine) → IsRunFrom D.state first self → (HasStopped self → ⊥) → IsUnderWay (setup_of self.core) (states_of D.state result.bay) first result.history.events }
         ensures closed { (first : Machine) → IsRunFrom D.state first self → HasStopped self → Closes (setup_of self.core) (states_of D.state result.bay) first self.core.places self.programs result.history.events }
     {
         let Site {

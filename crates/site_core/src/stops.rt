@@ -1,18 +1,18 @@
 // The ends of a run that a device brings.
 ghost use Rattle.std.specs.Prelude.{◌≡◌, ◌++◌, ◌∷◌, [], true, false, IfOk, OnOk, OnErr, ◌≤◌};
 ghost use Rattle.ckpt_model.specs.declared.event.Event.TheVariants as event;
-ghost use Rattle.site_core.specs.Causes.{cause_of, is_told, is_device_fault};
-ghost use Rattle.site_core.specs.Waiting.{is_over};
+ghost use Rattle.site_calls.specs.Causes.{is_device_fault};
+ghost use Rattle.site_core.specs.Causes.{cause_of, is_told};
+ghost use Rattle.site_state.specs.Waiting.{is_over};
 ghost use Rattle.site_core.specs.Ahead.{Lowers};
 ghost use Rattle.site_core.specs.Order.{KeepsOrder};
 ghost use Rattle.site_core.specs.Follows.{IsSameRun};
 
-use crate::core_state::Stage;
-use crate::error::{SiteError, Trouble};
 use crate::site::Site;
-use crate::turn::Turn;
 use ckpt_model::{Event, StopCause};
 use node_device::Device;
+use site_calls::Trouble;
+use site_state::{RunStage, SiteError, Turn};
 
 impl<D: Device> Site<D> {
     /// A device refused a call without which the run can't go on: it is over, which takes no memory. Where the call itself found
@@ -20,7 +20,7 @@ impl<D: Device> Site<D> {
     pub(crate) fn stop_by(&mut self, trouble: Trouble) -> Result<Turn, SiteError>
         requires { 2 ≤ self.old.history.spare }
         ensures events { OnOk result (self.new.history.events ≡ self.old.history.events ++ event.Stop (cause_of trouble) ∷ []) }
-        ensures core { OnOk result (self.new.core ≡ record self.old.core { stage = Stage.Over }) }
+        ensures core { OnOk result (self.new.core ≡ record self.old.core { stage = RunStage.Over }) }
         ensures lowers { is_over self.old.core.stage ≡ false → IfOk result (λ turn. Lowers turn self.old self.new) }
         ensures order { OnOk result (KeepsOrder self.old self.new) }
         ensures moved { IfOk result (λ turn. turn ≡ Turn.Moved) }
@@ -46,7 +46,7 @@ impl<D: Device> Site<D> {
         let Ok(()) = self.history.push(Event::Stop { cause }) else {
             unreachable!()
         };
-        self.core.stage = Stage::Over;
+        self.core.stage = RunStage::Over;
         Ok(Turn::Moved)
     }
 
@@ -55,7 +55,7 @@ impl<D: Device> Site<D> {
     pub(crate) fn stop_by_fault(&mut self, trouble: Trouble) -> Result<Turn, SiteError>
         requires { 2 ≤ self.old.history.spare }
         ensures events { OnOk result (self.new.history.events ≡ self.old.history.events ++ event.Stop (cause_of trouble) ∷ []) }
-        ensures core { OnOk result (self.new.core ≡ record self.old.core { stage = Stage.Over }) }
+        ensures core { OnOk result (self.new.core ≡ record self.old.core { stage = RunStage.Over }) }
         ensures lowers { is_over self.old.core.stage ≡ false → IfOk result (λ turn. Lowers turn self.old self.new) }
         ensures order { OnOk result (KeepsOrder self.old self.new) }
         ensures moved { IfOk result (λ turn. turn ≡ Turn.Moved) }

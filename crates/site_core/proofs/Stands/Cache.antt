@@ -1,45 +1,35 @@
 -- What a stop may leave of the cache of a run is what its devices hold for the datasets that the machine keeps.
-use Rattle.std.proofs.Common.{◌≡◌, ◌≢◌, ◌⊎◌, inl, inr, ◌<◌, ◌≤◌, ◌+◌, ◌*◌, ◌/◌, ◌%◌, ◌==◌, ℕ, zero, suc, Bool, true, false, List, [], ◌∷◌, length, map, Option, Some, None, refl, sym, ◌∙◌, ap, ap₂, subst, arith}
-use Rattle.std.specs.Prelude.{IsTrue, slice_get, slice_index, option_map, ◌||◌, codes}
+use Rattle.std.proofs.Common.{◌≡◌, ◌≢◌, ◌⊎◌, inl, inr, ◌<◌, ◌+◌, ◌*◌, ◌/◌, ◌%◌, ℕ, true, false, List, [], ◌∷◌, map, Option, Some, None, refl, sym, ◌∙◌, ap, ap₂, subst, arith}
+use Rattle.std.specs.Prelude.{slice_get, slice_index, option_map}
 use Rattle.std.specs.List.{list_any}
 use Rattle.std.proofs.lemmas.Bool.{cases_eq}
-use Rattle.std.proofs.lemmas.Bool.Decides.{nat_tests}
 use Rattle.std.proofs.lemmas.Nat.{div-mul-add, mod-mul-add}
 use Rattle.std.proofs.lemmas.Option.{slice_get-map, slice_get_within, slice_get-get_or, get_or_from_slice_get}
 use Rattle.std.proofs.lemmas.List.FromFn.{length-range_with_len, get_or-range_with_len}
-use Rattle.scr_base.specs.Same.{same_id}
-use Rattle.scr_base.specs.Sets.{numbers_below, is_among}
+use Rattle.scr_base.specs.Sets.{numbers_below}
 use Rattle.scr_base.specs.declared.shape.DataId.{DataId}
-use Rattle.scr_base.specs.declared.shape.Shape.{Shape}
 use Rattle.node_device.specs.File.{MayLeave}
 use Rattle.node_device.specs.DeviceState.{DeviceState}
-use Rattle.gated_record.specs.Record.{IsOpen, is_open}
-use Rattle.gate_outcomes.specs.Leaves.{Leaves}
-use Rattle.filemap.specs.Maps.{IsMap, rows_of}
-use Rattle.filemap.specs.declared.rows.FileRow.{FileRow}
-use Rattle.member_store.specs.Names.{record_name, part_name, IsPlace}
+use Rattle.filemap.specs.Maps.{rows_of}
+use Rattle.member_store.specs.Names.{part_name}
 use Rattle.member_store.specs.declared.part.Part.TheVariants.{File as FilePart}
-use Rattle.ckpt_model.specs.Dataset.{Dataset, File as RankFile, files_of}
-use Rattle.ckpt_model.specs.Machine.{Machine, Setup, Kept, MemberState, Entry}
-use Rattle.ckpt_model.specs.Questions.{is_kept, is_id_of, is_failed}
-use Rattle.ckpt_model.specs.Shows.{Shows, IsMemberAt, StandsAtHome, IsOfKept, IsLeftOver, IsEntryAt}
+use Rattle.ckpt_model.specs.Dataset.{File as RankFile}
+use Rattle.ckpt_model.specs.Machine.{Machine, Setup, Kept, MemberState}
+use Rattle.ckpt_model.specs.Questions.{is_kept, is_id_of}
 use Rattle.ckpt_model.proofs.ShowsLemmas.{mapped_at}
-use Rattle.ckpt_model.proofs.Plays.{same_id_is}
-use Rattle.ckpt_model.proofs.SameLemmas.{id-same}
-use Rattle.site_core.specs.declared.cache.Cached.{Cached}
-use Rattle.site_core.specs.declared.cache.Manifest.{Manifest}
-use Rattle.site_core.specs.Shown.{Contents, kept_of, set_of, rank_files, all_files, is_doubtful}
+use Rattle.site_state.specs.declared.cache.Cached.{Cached}
+use Rattle.site_state.specs.declared.cache.Manifest.{Manifest}
+use Rattle.site_state.specs.Shown.{Contents, kept_of, set_of, is_doubtful}
 use Rattle.site_core.specs.Stored.{Cells, cells_of, contents_in, place_of_rank, file_name, FilesStand, IsOfSite}
-use Rattle.site_core.specs.Left.{LeavesKept, LeavesWhole, IsNoneOf, NoLater}
-use Rattle.site_core.proofs.Puts.{few_nodes, place_is}
-use Rattle.site_core.proofs.Hands.{rank_files_are}
+use Rattle.site_core.specs.Left.{LeavesKept, IsNoneOf, NoLater}
+use Rattle.site_core.proofs.Puts.{place_is}
+use Rattle.site_state.proofs.Hands.{rank_files_are}
 use Rattle.site_core.proofs.Stands.Contents.{names_are, lengths_are, long_are, node_holds, file_at}
-use Rattle.site_stands.specs.Cells.{physical_nodes, prefix_place, IsQuiet}
-use Rattle.site_stands.specs.Entry.{ReadsEntry, entry_name, mark_in}
+use Rattle.site_stands.specs.Cells.{physical_nodes}
 use Rattle.site_stands.specs.Described.{Describes, IsFileAt, is_single}
-use Rattle.site_stands.specs.View.{Reads, Opens, Seals, IsMemberOf, Lists, IsEntryOf, Names, site_view}
-use Rattle.site_stands.specs.Members.{MemberStands, HomeHolds, NodeStands, KeptStands, NoneSealed, NoneReads}
-use Rattle.site_stands.specs.Site.{Stands, NodesStand}
+use Rattle.site_stands.specs.View.{Reads}
+use Rattle.site_stands.specs.Members.{MemberStands, NodeStands, KeptStands}
+use Rattle.site_stands.specs.Site.{NodesStand}
 use Rattle.site_stands.proofs.Lists.{not_both, physical_low, all_at, alone}
 use Rattle.site_stands.proofs.Keeping.Kept.{read_place}
 use Rattle.site_stands.proofs.Losing.Node.{none_reads}

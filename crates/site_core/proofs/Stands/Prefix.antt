@@ -1,10 +1,8 @@
 -- What a cut run leaves of the prefix, pair by pair.
-use Rattle.std.proofs.Common.{◌≡◌, ◌≢◌, ◌⊎◌, inl, inr, ◌<◌, ◌≤◌, ◌+◌, ℕ, Bool, true, false, List, [], ◌∷◌, Option, Some, None, refl, sym, ◌∙◌, ap, subst, arith}
+use Rattle.std.proofs.Common.{◌≡◌, ℕ, Bool, true, false, List, [], ◌∷◌, Option, Some, None, refl, sym, ◌∙◌, ap, subst, arith}
 use Rattle.std.proofs.lemmas.Bool.Decides.{nat_tests}
 use Rattle.std.specs.Prelude.{IsTrue, ◌==◌, ◌&&◌, slice_get, bytes_eq, codes, if◌then◌else◌}
-use Rattle.std.proofs.lemmas.Bool.{cases_eq}
 use Rattle.std.proofs.lemmas.Cmp.{nat_list_eq_equiv}
-use Rattle.scr_base.specs.Halt.{Halt}
 use Rattle.scr_base.specs.declared.shape.DataId.{DataId}
 use Rattle.node_device.specs.File.{MayLeave}
 use Rattle.node_device.specs.DeviceState.{DeviceState, IsOutcome}
@@ -15,11 +13,11 @@ use Rattle.gate_outcomes.specs.Leaves.{Leaves}
 use Rattle.halt_file.specs.Stores.{halt_in}
 use Rattle.ckpt_model.specs.Machine.{Machine, Setup, Entry, Pending}
 use Rattle.ckpt_model.specs.Stops.{pending_of, halt_left, mark_left}
-use Rattle.site_core.specs.Stored.{run_number}
-use Rattle.site_core.specs.Left.{LeavesPrefix, PrefixLeft}
+use Rattle.site_calls.specs.Numbers.{run_number}
+use Rattle.site_core.specs.Left.{LeavesPrefix}
 use Rattle.site_stands.specs.Entry.{ReadsEntry, entry_name, mark_in}
 use Rattle.site_stands.specs.View.{run_in}
-use Rattle.site_stands.specs.Prefix.{EntryHolds, IsRunOf, PairsStand}
+use Rattle.site_stands.specs.Prefix.{IsRunOf}
 use Rattle.site_stands.specs.Site.{PrefixStands}
 
 -- the number that a value of the pair `run` tells

@@ -1,5 +1,5 @@
 -- Devices that stand for a state as a run begins from it stand for it in the words of all runs, where no index record reads and there is no mark.
-use Rattle.std.proofs.Common.{◌≡◌, ◌⊎◌, inl, inr, ◌<◌, ◌≤◌, ◌+◌, ℕ, zero, suc, Bool, true, false, List, [], ◌∷◌, map, Option, Some, None, refl, sym, ◌∙◌, ap, subst, arith}
+use Rattle.std.proofs.Common.{◌≡◌, ◌⊎◌, inl, inr, ◌<◌, ◌≤◌, ℕ, zero, suc, true, List, [], ◌∷◌, map, Option, Some, None, refl, sym, ◌∙◌, ap, subst, arith}
 use Rattle.std.specs.Prelude.{slice_get, slice_index, option_map, ◌/◌, codes}
 use Rattle.std.proofs.lemmas.List.{get_or_past}
 use Rattle.std.proofs.lemmas.List.FromFn.{length-range_with_len}
@@ -13,15 +13,15 @@ use Rattle.gated_record.specs.Pair.{pair_value}
 use Rattle.gate_outcomes.specs.Gates.{StaysOpen}
 use Rattle.member_store.specs.Names.{record_name}
 use Rattle.member_store.specs.Members.{member_body}
-use Rattle.ckpt_model.specs.Machine.{Machine, Setup, Kept, Entry}
+use Rattle.ckpt_model.specs.Machine.{Machine, Setup, Entry}
 use Rattle.ckpt_model.specs.Proper.{IsProper}
-use Rattle.ckpt_model.specs.Shows.{IsEntryAt}
-use Rattle.site_core.specs.declared.cache.Cached.{Cached}
-use Rattle.site_core.specs.declared.cache.Manifest.{Manifest}
+use Rattle.site_state.specs.declared.cache.Cached.{Cached}
+use Rattle.site_state.specs.declared.cache.Manifest.{Manifest}
 use Rattle.site_core.specs.Stored.{cells_of, place_of_rank, file_name, FileStands, IsOfSite}
 use Rattle.site_core.specs.Left.{LeavesWhole, LeavesKept, NoLater}
 use Rattle.site_core.specs.Holds.{CanBegin, IsOneOf, settled_set}
-use Rattle.site_core.proofs.Puts.{few_nodes, place_is}
+use Rattle.site_state.proofs.Shapes.{few_nodes}
+use Rattle.site_core.proofs.Puts.{place_is}
 use Rattle.site_stands.specs.Cells.{prefix_place, physical_nodes, IsQuiet}
 use Rattle.site_stands.specs.Entry.{ReadsEntry, entry_name, mark_in}
 use Rattle.site_stands.specs.Described.{is_single}
@@ -29,7 +29,7 @@ use Rattle.site_stands.specs.View.{Reads, Names}
 use Rattle.site_stands.specs.Site.{Stands, NodesStand}
 use Rattle.site_stands.proofs.Lists.{physical_low, below_or_not}
 use Rattle.site_stands.proofs.Safety.Nodes.{nodes_show}
-use Rattle.site_stands.proofs.Safety.AtRest.{at_rest, stands_hold}
+use Rattle.site_stands.proofs.Safety.AtRest.{at_rest}
 use Rattle.site_stands.proofs.Safety.Index.{test_is}
 use Rattle.site_core.proofs.Stands.Cache.{home_is, home_below, cache_stands}
 use Rattle.site_core.proofs.Stands.Prefix.{same_run}

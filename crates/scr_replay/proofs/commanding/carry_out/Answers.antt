@@ -16,7 +16,7 @@ use Rattle.node_device.specs.Rack.{OnlyAt}
 use Rattle.admin.specs.Halting.{SetsHalt}
 use Rattle.admin.specs.declared.answer.Answer.TheVariants as admin
 use Rattle.site_core.specs.Faults.{TellsCauses}
-use Rattle.site_core.proofs.Sounds.{sound_of}
+use Rattle.site_calls.proofs.Sounds.{sound_of}
 use Rattle.scr_replay.proofs.CommandFaults.{command_causes, refused_causes}
 use Rattle.scr_replay.proofs.commanding.carry_out.Goals as goal
 

@@ -1,6 +1,6 @@
 use Rattle.std.proofs.Common.{◌+◌}
 use Rattle.std.specs.Prelude.{if◌then◌else◌}
-use Rattle.site_core.specs.Ahead.{ahead}
+use Rattle.site_state.specs.Ahead.{ahead}
 use Rattle.site_core.specs.Follows.{KeepsRun, IsSameRun}
 use Rattle.site_core.specs.Readings.{TellsTimes}
 use Rattle.site_core.specs.Faults.{KeepsAccount}

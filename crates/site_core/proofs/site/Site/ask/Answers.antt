@@ -3,8 +3,8 @@ use Rattle.scr_base.specs.declared.content.Step.{Step}
 use Rattle.node_device.specs.Rack.{states_of}
 use Rattle.site_core.specs.Holds.{Leads}
 use Rattle.site_core.proofs.Lengthened.{still_leads}
-use Rattle.site_core.proofs.InOrder.{lengthened_order}
-use Rattle.site_core.specs.Order.{IsInOrder}
+use Rattle.site_state.proofs.InOrder.{lengthened_order}
+use Rattle.site_state.specs.Order.{IsInOrder}
 use Rattle.site_core.proofs.site.Site.ask.Goals as goal
 
 pub returns-clause-run : goal.returns-clause-run

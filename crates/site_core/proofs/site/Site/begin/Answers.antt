@@ -8,8 +8,8 @@ use Rattle.model_proper.specs.Fair.{IsFair}
 use Rattle.model_proper.proofs.Fair.Passes.{between_fair}
 use Rattle.node_device.specs.Rack.{states_of}
 use Rattle.site_core.proofs.Resting.{begun_leads}
-use Rattle.site_core.proofs.InOrder.{fresh_order}
-use Rattle.site_core.specs.declared.core_state.Stage.TheVariants as stage
+use Rattle.site_state.proofs.InOrder.{fresh_order}
+use Rattle.site_state.specs.declared.run_state.RunStage.TheVariants as stage
 use Rattle.site_core.proofs.Accounts.{none_at}
 use Rattle.site_core.proofs.Faults.{begun_accounts}
 use Rattle.site_core.proofs.site.Site.begin.Goals as goal

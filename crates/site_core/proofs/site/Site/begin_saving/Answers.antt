@@ -1,6 +1,6 @@
 use Rattle.std.proofs.Common.{refl, inr, sym, ◌∙◌}
 use Rattle.node_device.specs.Rack.{states_of}
-use Rattle.site_core.specs.declared.core_state.Stage.TheVariants as stage
+use Rattle.site_state.specs.declared.run_state.RunStage.TheVariants as stage
 use Rattle.site_core.proofs.Works.{begins_at}
 use Rattle.site_core.proofs.Accounts.{none_at}
 use Rattle.site_core.proofs.site.Site.begin_saving.Goals as goal

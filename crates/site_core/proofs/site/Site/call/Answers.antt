@@ -5,9 +5,10 @@ use Rattle.node_device.specs.Rack.{states_of}
 use Rattle.round_core.specs.declared.seat.Seat.{Seat}
 use Rattle.round_core.specs.Seats.{next_number}
 use Rattle.site_core.proofs.Told.{appended}
-use Rattle.site_core.proofs.Serving.{called_on, some_same}
-use Rattle.site_core.proofs.AheadCores.{calls_lower}
-use Rattle.site_core.proofs.InOrder.{called_order}
+use Rattle.site_core.proofs.Serving.{called_on}
+use Rattle.site_state.proofs.Serving.{some_same}
+use Rattle.site_state.proofs.AheadCores.{calls_lower}
+use Rattle.site_state.proofs.InOrder.{called_order}
 use Rattle.site_core.proofs.site.Site.call.Goals as goal
 
 pub number_after-number-requires : goal.number_after-number-requires

@@ -2,8 +2,8 @@ use Rattle.std.proofs.Common.{sym, ap}
 use Rattle.node_device.specs.Rack.{states_of}
 use Rattle.site_core.proofs.Ending.{ended}
 use Rattle.site_core.proofs.Turns.{lawful}
-use Rattle.site_core.proofs.AheadCores.{stop_lower}
-use Rattle.site_core.specs.Waiting.{is_over}
+use Rattle.site_state.proofs.AheadCores.{stop_lower}
+use Rattle.site_state.specs.Waiting.{is_over}
 use Rattle.site_core.proofs.site.Site.end.Goals as goal
 
 pub returns-clause-run : goal.returns-clause-run

@@ -6,10 +6,10 @@ use Rattle.ckpt_model.specs.declared.event.Event.TheVariants as event
 use Rattle.ckpt_model.specs.declared.event.Kind.TheVariants as kind
 use Rattle.node_device.specs.Rack.{states_of}
 use Rattle.round_core.specs.Seats.{owed}
-use Rattle.site_core.specs.Shown.{running, setup_of, decided}
+use Rattle.site_state.specs.Shown.{running, setup_of, decided}
 use Rattle.site_core.proofs.Serving.{output_of}
-use Rattle.site_core.proofs.Rounds.{exits}
-use Rattle.site_core.proofs.AheadCores.{clear_calls}
+use Rattle.site_state.proofs.Rounds.{exits}
+use Rattle.site_state.proofs.AheadCores.{clear_calls}
 use Rattle.site_core.proofs.site.Site.exit.Goals as goal
 
 pub tell_round-requires-clause-steps : goal.tell_round-requires-clause-steps

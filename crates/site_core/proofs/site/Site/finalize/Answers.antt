@@ -2,9 +2,10 @@ use Rattle.std.proofs.Common.{sym, refl}
 use Rattle.scr_base.specs.declared.answers.Phase.TheVariants as phase
 use Rattle.scr_base.specs.declared.content.Step.TheVariants as step
 use Rattle.node_device.specs.Rack.{states_of}
-use Rattle.site_core.proofs.Serving.{closed_phase, rests_closed}
-use Rattle.site_core.proofs.Rounds.{finalized}
-use Rattle.site_core.proofs.AheadCores.{clear_calls}
+use Rattle.site_state.proofs.Serving.{closed_phase}
+use Rattle.site_core.proofs.Serving.{rests_closed}
+use Rattle.site_state.proofs.Rounds.{finalized}
+use Rattle.site_state.proofs.AheadCores.{clear_calls}
 use Rattle.site_core.proofs.site.Site.finalize.Goals as goal
 
 pub tell_round-requires-clause-steps : goal.tell_round-requires-clause-steps

@@ -1,5 +1,5 @@
 use Rattle.node_device.specs.Rack.{states_of}
-use Rattle.site_core.specs.Waiting.{is_over}
+use Rattle.site_state.specs.Waiting.{is_over}
 use Rattle.site_core.proofs.Halting.{halts, not_over}
 use Rattle.site_core.proofs.Turns.{lawful}
 use Rattle.site_core.proofs.site.Site.halt_now.Goals as goal

@@ -7,10 +7,11 @@ use Rattle.ckpt_model.specs.declared.event.Event.TheVariants as event
 use Rattle.ckpt_model.specs.declared.event.Kind.TheVariants as kind
 use Rattle.node_device.specs.Rack.{states_of}
 use Rattle.round_core.specs.Seats.{owed}
-use Rattle.site_core.specs.Shown.{running, setup_of, decided}
-use Rattle.site_core.proofs.Rounds.{offered, offered_none}
-use Rattle.site_core.proofs.Serving.{closed_phase, rests_closed}
-use Rattle.site_core.proofs.AheadCores.{clear_calls}
+use Rattle.site_state.specs.Shown.{running, setup_of, decided}
+use Rattle.site_state.proofs.Rounds.{offered, offered_none}
+use Rattle.site_state.proofs.Serving.{closed_phase}
+use Rattle.site_core.proofs.Serving.{rests_closed}
+use Rattle.site_state.proofs.AheadCores.{clear_calls}
 use Rattle.site_core.proofs.site.Site.have.Goals as goal
 
 pub tell_round-requires-clause-steps : goal.tell_round-requires-clause-steps

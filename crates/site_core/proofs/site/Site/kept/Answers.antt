@@ -1,9 +1,10 @@
 use Rattle.std.proofs.Common.{sym, refl}
 use Rattle.scr_base.specs.declared.answers.Phase.TheVariants.{Idle}
 use Rattle.node_device.specs.Rack.{states_of}
-use Rattle.site_core.proofs.Rounds.{kept_it}
-use Rattle.site_core.proofs.Serving.{at_work, closed_phase}
-use Rattle.site_core.proofs.AheadCores.{clear_calls}
+use Rattle.site_state.proofs.Rounds.{kept_it}
+use Rattle.site_core.proofs.Serving.{at_work}
+use Rattle.site_state.proofs.Serving.{closed_phase}
+use Rattle.site_state.proofs.AheadCores.{clear_calls}
 use Rattle.scr_base.specs.declared.content.Step.TheVariants as step
 use Rattle.site_core.proofs.site.Site.kept.Goals as goal
 

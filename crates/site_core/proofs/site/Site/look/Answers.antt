@@ -1,18 +1,20 @@
 use Rattle.std.proofs.Common.{arith, ◌∙◌, [], map, filter, ap, sym, refl}
 use Rattle.ckpt_model.specs.declared.event.Event.TheVariants as event
 use Rattle.node_device.specs.Rack.{states_of}
-use Rattle.site_core.specs.Shown.{row_of}
+use Rattle.site_state.specs.Shown.{row_of}
 use Rattle.site_core.specs.Causes.{cause_of}
-use Rattle.site_core.specs.Looks.{is_standing, found_member}
-use Rattle.site_core.specs.Cores.{recovered, seen_core}
+use Rattle.site_state.specs.Looks.{is_standing, found_member}
+use Rattle.site_state.specs.Cores.{recovered, seen_core}
 use Rattle.site_core.specs.Follows.{IsOfWorker}
 use Rattle.site_core.proofs.Told.{appended}
-use Rattle.site_core.proofs.Telling.{same_states, on_ok, on_ok2, on_ok3}
+use Rattle.site_calls.proofs.Telling.{same_states, on_ok, on_ok2, on_ok3}
 use Rattle.site_core.proofs.LocalSteps.{lead_on}
-use Rattle.site_core.proofs.CallCauses.{no_write}
+use Rattle.site_calls.proofs.CallCauses.{no_write}
 use Rattle.site_core.proofs.Turns.{ends_looking, tells_end, tells_one, moved_stays}
 use Rattle.site_core.proofs.Seen.{seen}
-use Rattle.site_core.specs.Waiting.{is_over}
+use Rattle.site_state.specs.Waiting.{is_over}
+use Rattle.site_core.proofs.Sparing.{spared_by, memory_is_calm}
+use Rattle.site_core.proofs.Sparing.{spared_behind}
 use Rattle.site_core.proofs.site.Site.look.Goals as goal
 
 pub returns-in-Ok-clause-run : goal.returns-in-Ok-clause-run
@@ -54,3 +56,9 @@ returns-in-Ok-clause-lowers g c = c.find.ensures.lowers c.requires
 
 pub returns-in-Err-clause-lowers : goal.returns-in-Err-clause-lowers
 returns-in-Err-clause-lowers g c = c.stop_by.ensures.lowers (ap is_over c.requires)
+
+pub returns-in-Err-clause-spared : goal.returns-in-Err-clause-spared
+returns-in-Err-clause-spared g c = spared_by g.D.Device.state c.args.self.now _ c.stop_by.new.self c.stop_by.result c.in-Err.trouble c.stop_by.ensures.refused (memory_is_calm c.stop_by.result c.in-Err.trouble c.stop_by.ensures.memory) refl refl c.reserve.ensures.events refl c.in-Err.ensures.spared
+
+pub returns-in-Ok-clause-spared : goal.returns-in-Ok-clause-spared
+returns-in-Ok-clause-spared g c = spared_behind g.D.Device.state c.args.self.now _ c.find.new.self c.find.result c.find.ensures.spared refl refl c.reserve.ensures.events refl (same_states _ _ _ c.in-Ok.ensures.same)

@@ -10,18 +10,18 @@ use Rattle.ckpt_model.specs.declared.event.Event.TheVariants as event
 use Rattle.scr_base.specs.declared.answers.Reply.TheVariants as reply
 use Rattle.scr_base.specs.declared.content.Step.TheVariants as step
 use Rattle.round_core.specs.Seats.{stepped}
-use Rattle.site_core.specs.Choosing.{rows_at}
-use Rattle.site_core.specs.declared.core_state.Core.{Core}
-use Rattle.site_core.proofs.LocalCalls.{front_is}
+use Rattle.site_state.specs.Choosing.{rows_at}
+use Rattle.site_state.specs.declared.run_state.RunState.{RunState}
+use Rattle.site_state.proofs.LocalCalls.{front_is}
 use Rattle.site_core.proofs.LocalSteps.{read_told, same_states, lead_on}
 use Rattle.scr_base.specs.declared.answers.Refusal.{Refusal}
 use Rattle.scr_base.specs.declared.answers.Refusal.TheVariants as refusal
 use Rattle.ckpt_model.specs.Answers.{may_fault_local}
-use Rattle.site_core.specs.declared.error.Trouble.{Trouble}
-use Rattle.site_core.specs.declared.error.Trouble.TheVariants as error
-use Rattle.site_core.specs.Causes.{CallCause}
-use Rattle.site_core.specs.Writes.{IsNoWrite}
-use Rattle.site_core.proofs.Telling.{on_ok2}
+use Rattle.site_calls.specs.declared.trouble.Trouble.{Trouble}
+use Rattle.site_calls.specs.declared.trouble.Trouble.TheVariants as error
+use Rattle.site_calls.specs.Causes.{CallCause}
+use Rattle.site_calls.specs.Writes.{IsNoWrite}
+use Rattle.site_calls.proofs.Telling.{on_ok2}
 use Rattle.site_core.proofs.LocalRefusals.{keeps_get}
 use Rattle.site_core.proofs.AheadCores.{stepped_run}
 use Rattle.site_core.proofs.InOrder.{stepped_order}
@@ -49,7 +49,7 @@ returns-in-Ok-get_part-clause-run g c = λ tells first base follows.
     let count : length c.deref_mut.result.now ≡ min len (row.len - at) = c.deref_mut.ensures.len ∙ c.in-Ok.ensures.len ∙ c.min-count.ensures ∙ ap (λ (k : ℕ). min len k) c.saturating_sub.ensures in
     let text : c.of-bytes.result ≡ take (min len (row.len - at)) (drop (min at row.len) there) =
     c.of-bytes.ensures ∙ front_is c.in-Ok.bytes.len c.get_part.new.into (drop (length c.get_part.new.into) c.in-Ok.bytes.items) (c.in-Ok.bytes.ok.0 ∙ ap length (sym c.deref_mut.ensures.value) ∙ sym c.get_part.auto.into) ∙ told ∙ ap (λ (k : ℕ). take k (drop c.min-from.result there)) count ∙ ap (λ (k : ℕ). take (min len (row.len - at)) (drop k there)) c.min-from.ensures in
-    lead_on first (let x : Core = record s.core { ranks = slice_set s.core.ranks rank (stepped n.seat) } in x) after.core s.programs after.programs (states_of state s.bay) (states_of state after.bay) after.history.events
+    lead_on first (let x : RunState = record s.core { ranks = slice_set s.core.ranks rank (stepped n.seat) } in x) after.core s.programs after.programs (states_of state s.bay) (states_of state after.bay) after.history.events
     (c.go_past.ensures.core n.seat n.is) c.go_past.ensures.fixed.programs
     (ap (states_of state) c.go_past.ensures.bay ∙ same_states spot.place (states_of state s.bay) (states_of state c.get_part.new.bay) c.in-Ok-get_part.ensures.same)
     (read_told first s.core s.programs (states_of state s.bay) s.history.events after.history.events rank file c.args.word at len spot row c.of-bytes.result

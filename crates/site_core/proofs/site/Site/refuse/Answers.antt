@@ -1,9 +1,9 @@
 use Rattle.std.proofs.Common.{◌∙◌}
 use Rattle.node_device.specs.Rack.{states_of}
-use Rattle.site_core.proofs.Gates.{refuses}
+use Rattle.site_state.proofs.Gates.{refuses}
 use Rattle.site_core.proofs.Serving.{output_of}
-use Rattle.site_core.proofs.Rounds.{verdict_is}
-use Rattle.site_core.proofs.AheadCores.{refused_calls}
+use Rattle.site_state.proofs.Rounds.{verdict_is}
+use Rattle.site_state.proofs.AheadCores.{refused_calls}
 use Rattle.site_core.proofs.site.Site.refuse.Goals as goal
 
 pub tell_round-requires-clause-steps : goal.tell_round-requires-clause-steps

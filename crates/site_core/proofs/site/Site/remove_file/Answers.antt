@@ -1,15 +1,18 @@
 use Rattle.std.proofs.Common.{◌≡◌, sym, ap, ◌∙◌, refl}
 use Rattle.node_device.specs.Rack.{states_of}
-use Rattle.site_core.specs.Removals.{Leaving}
-use Rattle.site_core.specs.declared.core_state.Drop.TheVariants as drop
+use Rattle.site_calls.specs.Removals.{Leaving}
+use Rattle.site_state.specs.declared.run_state.DropStep.TheVariants as drop
 use Rattle.site_core.proofs.Closing.{over_core}
 use Rattle.site_core.proofs.Removing.{file_dropped, files_dropped}
 use Rattle.site_core.proofs.DroppedRounds.{ends_dropping}
-use Rattle.site_core.proofs.Telling.{on_ok3, tell_on}
-use Rattle.site_core.proofs.Sounds.{sound_of}
-use Rattle.site_core.proofs.AheadCores.{removed_lower, cleared_lower, ends_lower}
-use Rattle.site_core.specs.Waiting.{is_over}
+use Rattle.site_calls.proofs.Telling.{on_ok3, tell_on}
+use Rattle.site_calls.proofs.Sounds.{sound_of}
+use Rattle.site_state.proofs.AheadCores.{removed_lower, cleared_lower}
+use Rattle.site_core.proofs.AheadCores.{ends_lower}
+use Rattle.site_state.specs.Waiting.{is_over}
 use Rattle.site_core.proofs.Told.{behind, with_room}
+use Rattle.site_core.proofs.Sparing.{spared_by}
+use Rattle.site_state.specs.declared.run_state.RunState.{RunState}
 use Rattle.site_core.proofs.site.Site.remove_file.Goals as goal
 
 pub returns-in-Ok-true-clause-run : goal.returns-in-Ok-true-clause-run
@@ -46,3 +49,6 @@ pub returns-in-Err-clause-lowers : goal.returns-in-Err-clause-lowers
 returns-in-Err-clause-lowers g c =
     let s = c.args.self.now in
     ends_lower s c.stop_by_fault.new.self (record s.core { removal = c.drop_file.new.removal }) c.stop_by_fault.result (ap is_over c.requires.stage) refl refl c.stop_by_fault.ensures.fixed.programs c.stop_by_fault.ensures.moved c.stop_by_fault.ensures.core
+
+pub returns-in-Err-clause-spared : goal.returns-in-Err-clause-spared
+returns-in-Err-clause-spared g c = spared_by g.D.Device.state c.args.self.now _ c.stop_by_fault.new.self c.stop_by_fault.result c.in-Err.trouble c.stop_by_fault.ensures.refused c.stop_by_fault.ensures.no_fault (ap (λ (r : Leaving). let y : RunState = record c.args.self.now.core { removal = r } in y) c.in-Err.ensures.stays) refl c.reserve.ensures.events refl c.in-Err.ensures.spared

@@ -1,7 +1,7 @@
 use Rattle.std.proofs.Common.{List, ℕ, ap, ◌∙◌}
 use Rattle.filemap.specs.Rows.{place_of}
 use Rattle.node_device.specs.Rack.{states_of}
-use Rattle.site_core.specs.Choosing.{rows_at}
+use Rattle.site_state.specs.Choosing.{rows_at}
 use Rattle.site_core.proofs.LocalSteps.{may_route_again}
 use Rattle.site_core.proofs.Serving.{none_open}
 use Rattle.site_core.proofs.site.Site.route_again.Goals as goal

@@ -1,9 +1,9 @@
 use Rattle.node_device.specs.Rack.{states_of}
 use Rattle.site_core.proofs.RunsOut.{numbers_over}
 use Rattle.site_core.proofs.Turns.{lawful}
-use Rattle.site_core.proofs.AheadCores.{stop_lower}
+use Rattle.site_state.proofs.AheadCores.{stop_lower}
 use Rattle.std.proofs.Common.{ap}
-use Rattle.site_core.specs.Waiting.{is_over}
+use Rattle.site_state.specs.Waiting.{is_over}
 use Rattle.site_core.proofs.site.Site.run_out_of_numbers.Goals as goal
 
 pub returns-clause-run : goal.returns-clause-run

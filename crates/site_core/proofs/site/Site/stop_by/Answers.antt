@@ -1,6 +1,6 @@
-use Rattle.site_core.proofs.AheadCores.{cut_lower}
+use Rattle.site_state.proofs.AheadCores.{cut_lower}
 use Rattle.std.proofs.Common.{refl}
-use Rattle.site_core.specs.declared.core_state.Stage.TheVariants as stage
+use Rattle.site_state.specs.declared.run_state.RunStage.TheVariants as stage
 use Rattle.site_core.proofs.site.Site.stop_by.Goals as goal
 
 pub returns-clause-lowers : goal.returns-clause-lowers

@@ -1,17 +1,20 @@
 use Rattle.std.proofs.Common.{sym, arith, ◌+◌, refl, ap}
 use Rattle.node_device.specs.Rack.{states_of}
-use Rattle.site_core.specs.declared.core_state.Work.TheVariants as work
+use Rattle.site_state.specs.declared.run_state.SaveStep.TheVariants as work
 use Rattle.site_core.proofs.Saving.{saving_leads}
 use Rattle.site_core.proofs.SaveMoves.{sealed_synced}
 use Rattle.site_core.proofs.Works.{saves_now}
-use Rattle.site_core.proofs.Telling.{on_ok2, on_ok3}
+use Rattle.site_calls.proofs.Telling.{on_ok2, on_ok3}
 use Rattle.site_core.proofs.Refusals.{fault_is_told, fault_cause}
 use Rattle.site_core.proofs.Turns.{ends_saving, synced_left, tells_end, moved_stays}
-use Rattle.site_core.proofs.AheadCores.{next_lower}
-use Rattle.site_core.specs.declared.core_state.Stage.TheVariants as stage
-use Rattle.site_core.specs.Waiting.{is_over}
+use Rattle.site_state.proofs.AheadCores.{next_lower}
+use Rattle.site_state.specs.declared.run_state.RunStage.TheVariants as stage
+use Rattle.site_state.specs.Waiting.{is_over}
 use Rattle.site_core.proofs.Told.{behind, with_room}
 use Rattle.site_core.specs.Causes.{cause_of}
+use Rattle.site_core.proofs.Sparing.{spared_by}
+use Rattle.site_core.specs.Follows.{may_refuse}
+use Rattle.site_core.proofs.Placing.{placed_late, placed_end}
 use Rattle.site_core.proofs.site.Site.sync_next.Goals as goal
 
 pub returns-in-Ok-clause-run : goal.returns-in-Ok-clause-run
@@ -41,3 +44,12 @@ returns-in-Ok-clause-lowers g c =
 
 pub returns-in-Err-clause-lowers : goal.returns-in-Err-clause-lowers
 returns-in-Err-clause-lowers g c = c.stop_by_fault.ensures.lowers (ap is_over c.requires.stage)
+
+pub returns-in-Err-clause-spared : goal.returns-in-Err-clause-spared
+returns-in-Err-clause-spared g c = spared_by g.D.Device.state c.args.self.now _ c.stop_by_fault.new.self c.stop_by_fault.result c.in-Err.trouble c.stop_by_fault.ensures.refused c.stop_by_fault.ensures.no_fault refl refl c.reserve.ensures.events refl c.in-Err.ensures.spared
+
+pub returns-in-Ok-clause-placed : goal.returns-in-Ok-clause-placed
+returns-in-Ok-clause-placed g c = placed_late c.args.self.now.core _ (ap may_refuse c.requires.stage) refl
+
+pub returns-in-Err-clause-placed : goal.returns-in-Err-clause-placed
+returns-in-Err-clause-placed g c = placed_end c.stop_by_fault.result c.args.self.now.core c.args.self.now.core c.stop_by_fault.new.self.core (ap may_refuse c.requires.stage) c.stop_by_fault.ensures.core

@@ -1,17 +1,20 @@
 use Rattle.std.proofs.Common.{sym, subst, refl, ap}
 use Rattle.node_device.specs.Rack.{states_of}
-use Rattle.site_core.specs.declared.core_state.Stage.{Stage}
-use Rattle.site_core.specs.declared.core_state.Work.TheVariants as work
+use Rattle.site_state.specs.declared.run_state.RunStage.{RunStage}
+use Rattle.site_state.specs.declared.run_state.SaveStep.TheVariants as work
 use Rattle.site_core.specs.Holds.{Leads}
 use Rattle.site_core.proofs.Saving.{staged}
 use Rattle.site_core.proofs.Works.{saves_now, whole_after}
-use Rattle.site_core.proofs.Telling.{on_ok2, on_ok3}
+use Rattle.site_calls.proofs.Telling.{on_ok2, on_ok3}
 use Rattle.site_core.proofs.Refusals.{fault_is_told, fault_cause}
 use Rattle.site_core.proofs.Turns.{ends_saving, synced_left, tells_end, moved_stays}
-use Rattle.site_core.proofs.AheadCores.{whole_done}
-use Rattle.site_core.specs.Waiting.{is_over}
+use Rattle.site_state.proofs.AheadCores.{whole_done}
+use Rattle.site_state.specs.Waiting.{is_over}
 use Rattle.site_core.proofs.Told.{behind, with_room}
 use Rattle.site_core.specs.Causes.{cause_of}
+use Rattle.site_core.proofs.Sparing.{spared_by}
+use Rattle.site_core.specs.Follows.{may_refuse}
+use Rattle.site_core.proofs.Placing.{placed_late, placed_end, after_none}
 use Rattle.site_core.proofs.site.Site.sync_whole.Goals as goal
 
 pub returns-in-Ok-clause-run : goal.returns-in-Ok-clause-run
@@ -21,7 +24,7 @@ returns-in-Ok-clause-run g c = λ tells first base f.
     let new = states_of g.D.Device.state c.sync_node.new.bay in
     let h = saves_now first s.core s.programs old s.history.events work.WholeSync c.args.node c.requires.stage f in
     let l = whole_after first s.core s.programs old new s.history.events c.args.node c.in-Some.place (sym c.in-Some.ensures.place) c.in-Ok.ensures.synced h.0 h.1 in
-    with_room c.reserve.ensures.events (subst (λ (x : Stage). Leads first (staged s.core x) s.programs new s.history.events) (sym c.after-self.ensures) l)
+    with_room c.reserve.ensures.events (subst (λ (x : RunStage). Leads first (staged s.core x) s.programs new s.history.events) (sym c.after-self.ensures) l)
 
 pub returns-in-Err-clause-run : goal.returns-in-Err-clause-run
 returns-in-Err-clause-run g c = on_ok3 c.stop_by_fault.result (λ e k t. ends_saving g.D.Device.state c.args.self.now c.stop_by_fault.new.self c.in-Err.trouble (behind _ e c.reserve.ensures.events) k c.stop_by_fault.ensures.fixed.programs work.WholeSync c.args.node c.requires.stage t c.sync_node.new.bay c.stop_by_fault.ensures.bay (synced_left g.D.Device.state c.args.self.now c.args.node c.in-Some.place c.sync_node.new.bay work.WholeSync (cause_of c.in-Err.trouble) c.in-Err.ensures.refused))
@@ -41,3 +44,12 @@ returns-in-Ok-clause-lowers g c =
 
 pub returns-in-Err-clause-lowers : goal.returns-in-Err-clause-lowers
 returns-in-Err-clause-lowers g c = c.stop_by_fault.ensures.lowers (ap is_over c.requires.stage)
+
+pub returns-in-Err-clause-spared : goal.returns-in-Err-clause-spared
+returns-in-Err-clause-spared g c = spared_by g.D.Device.state c.args.self.now _ c.stop_by_fault.new.self c.stop_by_fault.result c.in-Err.trouble c.stop_by_fault.ensures.refused c.stop_by_fault.ensures.no_fault refl refl c.reserve.ensures.events refl c.in-Err.ensures.spared
+
+pub returns-in-Ok-clause-placed : goal.returns-in-Ok-clause-placed
+returns-in-Ok-clause-placed g c = placed_late c.args.self.now.core _ (ap may_refuse c.requires.stage) (after_none _ _ _ _ _ _ _ c.after-self.ensures)
+
+pub returns-in-Err-clause-placed : goal.returns-in-Err-clause-placed
+returns-in-Err-clause-placed g c = placed_end c.stop_by_fault.result c.args.self.now.core c.args.self.now.core c.stop_by_fault.new.self.core (ap may_refuse c.requires.stage) c.stop_by_fault.ensures.core

@@ -1,7 +1,7 @@
 use Rattle.std.proofs.Common.{ap, refl, ◌+◌}
 use Rattle.std.specs.Prelude.{slice_set}
 use Rattle.round_core.specs.Seats.{stepped}
-use Rattle.site_core.specs.declared.core_state.Core.{Core}
+use Rattle.site_state.specs.declared.run_state.RunState.{RunState}
 use Rattle.node_device.specs.Rack.{states_of}
 use Rattle.ckpt_model.specs.declared.event.Event.TheVariants as event
 use Rattle.site_core.proofs.LocalSteps.{tells_local, lead_on}
@@ -19,7 +19,7 @@ returns-clause-run g c = λ tells first base follows.
     let state = g.D.Device.state in
     let n = c.requires.next in
     let after = c.go_past.new.self in
-    lead_on first (let x : Core = record s.core { ranks = slice_set s.core.ranks c.args.rank (stepped n.seat) } in x) after.core s.programs after.programs (states_of state s.bay) (states_of state after.bay) after.history.events
+    lead_on first (let x : RunState = record s.core { ranks = slice_set s.core.ranks c.args.rank (stepped n.seat) } in x) after.core s.programs after.programs (states_of state s.bay) (states_of state after.bay) after.history.events
     (c.go_past.ensures.core n.seat n.is) c.go_past.ensures.fixed.programs (ap (states_of state) c.go_past.ensures.bay)
     (tells_local first s.core s.programs (states_of state s.bay) s.history.events after.history.events c.args.rank n.seat c.args.step c.args.answer c.requires.stage n.of_program follows
     (c.requires.steps tells first follows n.seat n.is) (behind _ (c.go_past.ensures.events n.seat n.is) c.reserve.ensures.events))

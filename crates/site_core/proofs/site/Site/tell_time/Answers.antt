@@ -1,6 +1,7 @@
 use Rattle.node_device.specs.Rack.{states_of}
-use Rattle.site_core.proofs.AheadCores.{told_lower}
-use Rattle.site_core.proofs.Times.{told_time, asking, unread}
+use Rattle.site_state.proofs.AheadCores.{told_lower}
+use Rattle.site_core.proofs.Times.{told_time}
+use Rattle.site_state.proofs.Times.{asking, unread}
 use Rattle.site_core.proofs.site.Site.tell_time.Goals as goal
 
 pub returns-clause-run : goal.returns-clause-run

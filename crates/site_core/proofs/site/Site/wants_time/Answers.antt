@@ -1,9 +1,9 @@
 use Rattle.std.proofs.Common.{sym, ap, ◌∙◌, Option}
 use Rattle.std.specs.Prelude.{is_none}
 use Rattle.scr_base.specs.declared.answers.Refusal.{Refusal}
-use Rattle.site_core.proofs.Asked.{one_missing}
-use Rattle.site_core.proofs.Called.{all_called}
-use Rattle.site_core.proofs.Times.{incomplete, asks_now, none_by}
+use Rattle.site_state.proofs.Asked.{one_missing}
+use Rattle.site_state.proofs.Called.{all_called}
+use Rattle.site_state.proofs.Times.{incomplete, asks_now, none_by}
 use Rattle.site_core.proofs.site.Site.wants_time.Goals as goal
 
 pub judge-requires : goal.judge-requires

@@ -1,31 +1,37 @@
+use Rattle.site_state.specs.declared.run_state.RunState.{RunState}
+use Rattle.site_state.specs.Waiting.{is_over}
+use Rattle.std.proofs.Common.{refl}
 use Rattle.std.proofs.Common.{Some, List, ap, ◌≡◌, sym, subst}
 use Rattle.node_device.specs.Rack.{states_of}
 use Rattle.site_core.specs.Holds.{IsSaving, Leads}
-use Rattle.site_core.specs.declared.cache.Manifest.{Manifest}
-use Rattle.site_core.specs.declared.core_state.Work.TheVariants as work
+use Rattle.site_state.specs.declared.cache.Manifest.{Manifest}
+use Rattle.site_state.specs.declared.run_state.SaveStep.TheVariants as work
 use Rattle.site_core.proofs.Saving.{saving_leads}
 use Rattle.site_core.proofs.SaveMoves.{recorded}
 use Rattle.site_core.proofs.Works.{opened_is}
-use Rattle.site_core.proofs.Sounds.{sound_of}
+use Rattle.site_calls.proofs.Sounds.{sound_of}
 use Rattle.ckpt_model.specs.Track.{Track}
 use Rattle.ckpt_model.specs.declared.event.Event.{Event}
-use Rattle.site_core.specs.Cores.{dropping_core}
-use Rattle.site_core.proofs.Telling.{on_ok, on_err}
-use Rattle.site_core.proofs.Accounts.{memory_calm, tells_nothing}
+use Rattle.site_state.specs.Cores.{dropping_core}
+use Rattle.site_calls.proofs.Telling.{on_ok}
+use Rattle.site_core.proofs.Accounts.{tells_nothing}
 use Rattle.site_core.proofs.LocalSteps.{lead_on}
 use Rattle.site_core.proofs.Refusals.{told_faults, refused_for}
 use Rattle.site_core.proofs.Removing.{carried_write}
-use Rattle.site_core.proofs.AheadCores.{recorded_lower, record_over}
+use Rattle.site_state.proofs.AheadCores.{recorded_lower, record_over}
 use Rattle.std.proofs.Common.{length, ◌+◌, ◌∙◌, inr}
 use Rattle.member_store.specs.Names.{record_name}
 use Rattle.member_store.specs.Members.{member_body}
 use Rattle.scr_base.specs.declared.actor.Actor.TheVariants as actor
 use Rattle.scr_base.specs.declared.answers.Reply.TheVariants as reply
 use Rattle.node_device.specs.Rack.{Rack}
-use Rattle.site_core.specs.Writes.{IsWrite, MayWrite}
+use Rattle.site_calls.specs.Writes.{IsWrite}
+use Rattle.site_core.specs.Writes.{MayWrite}
 use Rattle.site_core.specs.Follows.{carried, IsOf, IsRefusedFor}
-use Rattle.site_core.proofs.CallCauses.{cause_by}
+use Rattle.site_calls.proofs.CallCauses.{cause_by}
 use Rattle.site_core.proofs.Fulls.{passes_this, to_record_write, record_to_write, carry_full}
+use Rattle.site_core.proofs.Sparing.{spared_by, memory_is_calm}
+use Rattle.site_core.proofs.Placing.{placed_early, placed_drop, to_record_refuses}
 use Rattle.site_core.proofs.site.Site.write_record.Goals as goal
 
 pub returns-in-Ok-clause-run : goal.returns-in-Ok-clause-run
@@ -100,5 +106,11 @@ returns-in-Err-clause-accounted g c = on_ok c.carry.result (λ x.
 pub returns-in-Err-clause-told : goal.returns-in-Err-clause-told
 returns-in-Err-clause-told g c = on_ok c.carry.result (λ x. tells_nothing (IsOf actor.Encoder) (MayWrite actor.Encoder c.args.self.now.programs c.args.self.now.core) g.D.Device.state c.args.self.now c.carry.new.self c.carry.ensures.history) c.carry.ensures.core
 
-pub returns-in-Err-clause-calm : goal.returns-in-Err-clause-calm
-returns-in-Err-clause-calm g c = on_err c.carry.result (λ memory. memory_calm g.D.Device.state c.args.self.now c.carry.new.self c.put_member.new.bay c.carry.ensures.bay (Unit {0}) _ c.in-Err.trouble c.in-Err.ensures.cause memory) c.carry.ensures.memory
+pub returns-in-Err-clause-spared : goal.returns-in-Err-clause-spared
+returns-in-Err-clause-spared g c = spared_by g.D.Device.state c.args.self.now _ c.carry.new.self c.carry.result c.in-Err.trouble c.carry.ensures.refused (memory_is_calm c.carry.result c.in-Err.trouble c.carry.ensures.memory) refl refl refl refl c.in-Err.ensures.spared
+
+pub returns-in-Ok-clause-placed : goal.returns-in-Ok-clause-placed
+returns-in-Ok-clause-placed g c = placed_early c.args.self.now.core _ (to_record_refuses c.args.self.now.core.stage c.args.node c.requires.stage) refl
+
+pub returns-in-Err-clause-placed : goal.returns-in-Err-clause-placed
+returns-in-Err-clause-placed g c = placed_drop c.carry.result c.args.self.now.core c.carry.new.self.core (to_record_refuses c.args.self.now.core.stage c.args.node c.requires.stage) (on_ok c.carry.result (λ k. ap (λ (x : RunState). is_over x.stage) k.2) c.carry.ensures.core)

@@ -1,0 +1,5 @@
+pub mod Numbers
+pub mod Removals
+pub mod Calls
+pub mod Causes
+pub mod Writes

@@ -1,7 +1,0 @@
-use Rattle.std.proofs.Common.{◌≡◌, take}
-use Rattle.site_core.specs.Shown.{greatest_id}
-use Rattle.site_core.proofs.cache.Cache.greatest.Given as goal
-
--- it is the greatest of those before
-abbrev pub invariant-loop-set : goal.invariant-loop-set
-invariant-loop-set l = l.greatest ≡ greatest_id (take l.set-index l.set-items)

@@ -1,5 +1,0 @@
-use Rattle.site_core.proofs.Orders.{goes_on}
-use Rattle.site_core.proofs.laws.a_run_goes_on.Goals as goal
-
-pub returns : goal.returns
-returns c = goes_on

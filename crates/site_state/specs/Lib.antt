@@ -1,0 +1,10 @@
+pub mod Shown
+pub mod Choosing
+pub mod Waiting
+pub mod Looks
+pub mod Cores
+pub mod Steps
+pub mod Asking
+pub mod Ahead
+pub mod Order
+pub mod Asked
