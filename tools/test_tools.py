@@ -244,14 +244,20 @@ class Driver(unittest.TestCase):
         self.assertEqual(self.scr("explain")[:2], (65, ""))
 
 
-    def gate(self, check):
+    def gate(self, check, bench=0):
         (self.top / "tools/check.py").write_text(f"print('house: checked')\nraise SystemExit({check})\n")
+        run = self.top / "bench/run"
+        run.parent.mkdir(exist_ok=True)
+        run.write_text(f"#!/bin/sh\necho bench: compared\nexit {bench}\n")
+        run.chmod(0o755)
         done = subprocess.run([str(self.top / ".ci/run")], capture_output=True, text=True, env=self.environment())
         return done.returncode, done.stdout
 
     def test_the_gate_ends_with_the_status_of_rt_ci_and_else_with_that_of_the_own_checks(self):
-        self.assertEqual(self.gate(0), (0, "2 passed, 0 failed\nhouse: checked\n"))
-        self.assertEqual(self.gate(1), (1, "2 passed, 0 failed\nhouse: checked\n"))
+        passed = "2 passed, 0 failed\nbench: compared\nhouse: checked\n"
+        self.assertEqual(self.gate(0), (0, passed))
+        self.assertEqual(self.gate(1), (1, passed))
+        self.assertEqual(self.gate(0, bench=1), (1, passed))
         self.assertEqual(self.scr("replay")[3], [])
         (self.top / "FAILS").touch()
         self.assertEqual(self.gate(0), (3, "1 passed, 1 failed\n"))
